@@ -1,0 +1,92 @@
+//! What a client may ask of a cache, what of it is kept, and what it is answered.
+ghost use Rattle.std.specs.Prelude.{◌≡◌, IfOk};
+
+use crate::names::CacheName;
+use crate::texts::{Key, Value};
+use std::alloc::AllocError;
+
+/// Where an entry stands. The order is by cache, then by key.
+#[derive(PartialEq, Eq, PartialOrd, Ord, Debug, Drop)]
+pub struct EntryKey {
+    pub cache: CacheName,
+    pub key: Key,
+}
+
+/// What a client asks of one cache.
+#[derive(PartialEq, Eq, Debug, Drop)]
+pub enum Request {
+    /// Asks for the value of the key.
+    Get(CacheName, Key),
+    /// Writes the value, and asks for the previous one.
+    Put(CacheName, Key, Value),
+}
+
+/// A change of one cache.
+#[derive(PartialEq, Eq, Debug, Drop)]
+pub enum Mutation {
+    /// Writes the value at the key.
+    Put(CacheName, Key, Value),
+}
+
+/// What a client is answered.
+#[derive(PartialEq, Eq, Debug, Drop)]
+pub enum Reply {
+    /// The value at the key, if there is one.
+    Value(Option<Value>),
+    /// How many there are.
+    Count(u64),
+    /// It is done, and there is nothing to tell.
+    Done,
+}
+
+impl EntryKey {
+    /// Makes an equal one. Takes memory.
+    pub fn copy(&self) -> Result<Self, AllocError>
+        ensures { IfOk result (λ copied. copied ≡ self.now) }
+    {
+        let cache = self.cache.copy()?;
+        let key = self.key.copy()?;
+        Ok(EntryKey { cache, key })
+    }
+}
+
+impl Request {
+    /// Makes an equal one. Takes memory.
+    pub fn copy(&self) -> Result<Self, AllocError>
+        ensures { IfOk result (λ copied. copied ≡ self.now) }
+    {
+        match self {
+            Request::Get(cache, key) => Ok(Request::Get(cache.copy()?, key.copy()?)),
+            Request::Put(cache, key, value) => {
+                Ok(Request::Put(cache.copy()?, key.copy()?, value.copy()?))
+            }
+        }
+    }
+}
+
+impl Mutation {
+    /// Makes an equal one. Takes memory.
+    pub fn copy(&self) -> Result<Self, AllocError>
+        ensures { IfOk result (λ copied. copied ≡ self.now) }
+    {
+        match self {
+            Mutation::Put(cache, key, value) => {
+                Ok(Mutation::Put(cache.copy()?, key.copy()?, value.copy()?))
+            }
+        }
+    }
+}
+
+impl Reply {
+    /// Makes an equal one. Takes memory for a value.
+    pub fn copy(&self) -> Result<Self, AllocError>
+        ensures { IfOk result (λ copied. copied ≡ self.now) }
+    {
+        match self {
+            Reply::Value(Some(value)) => Ok(Reply::Value(Some(value.copy()?))),
+            Reply::Value(None) => Ok(Reply::Value(None)),
+            Reply::Count(count) => Ok(Reply::Count(*count)),
+            Reply::Done => Ok(Reply::Done),
+        }
+    }
+}

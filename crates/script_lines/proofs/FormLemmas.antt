@@ -1,0 +1,37 @@
+-- Laws of the forms: a value is at most one command's.
+use Rattle.std.proofs.Common.{◌≡◌, ℕ, List, [], ◌∷◌, Some, refl, sym, ap, ◌∙◌}
+use Rattle.script_lines.specs.Form.{event_data, events_data, command_data, IsLineOf}
+use Rattle.script_lines.specs.declared.command.Command.{Command}
+use Rattle.script_lines.specs.declared.command.Command.TheVariants.{Create, Dump, Steps}
+use Rattle.script_lines.specs.declared.command.Event.{Event}
+use Rattle.script_lines.specs.declared.command.Event.TheVariants.{Get, Put}
+
+pub event_data-injective : (a b : Event) → event_data a ≡ event_data b → a ≡ b
+event_data-injective (Get c k) (Get d l) e = cc
+event_data-injective (Get c k) (Put d l w) e = cc
+event_data-injective (Put c k v) (Get d l) e = cc
+event_data-injective (Put c k v) (Put d l w) e = cc
+
+pub events_data-injective : (xs ys : List Event) → events_data xs ≡ events_data ys → xs ≡ ys
+events_data-injective [] [] e = refl
+events_data-injective [] (b ∷ ys) e = cc
+events_data-injective (a ∷ xs) [] e = cc
+events_data-injective (a ∷ xs) (b ∷ ys) e =
+    let head : a ≡ b = event_data-injective a b (cc) in
+    let tail : xs ≡ ys = events_data-injective xs ys (cc) in
+    cc
+
+pub command_data-injective : (a b : Command) → command_data a ≡ command_data b → a ≡ b
+command_data-injective (Create h) (Create i) e = cc
+command_data-injective (Create h) Dump e = cc
+command_data-injective (Create h) (Steps es) e = cc
+command_data-injective Dump (Create i) e = cc
+command_data-injective Dump Dump e = refl
+command_data-injective Dump (Steps es) e = cc
+command_data-injective (Steps es) (Create i) e = cc
+command_data-injective (Steps es) Dump e = cc
+command_data-injective (Steps es) (Steps fs) e = ap Steps (events_data-injective es fs (cc))
+
+-- the line is at most one command's
+pub one_of_a_line : (line : List ℕ) (a b : Command) → IsLineOf line a → IsLineOf line b → a ≡ b
+one_of_a_line line a b p q = let e : Some (command_data a) ≡ Some (command_data b) = sym p.value ∙ q.value in command_data-injective a b (cc)

@@ -1,0 +1,4 @@
+pub mod EventLemmas
+pub mod FormLemmas
+pub mod ReadingLemmas
+pub mod ShapeLemmas

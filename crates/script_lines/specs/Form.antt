@@ -1,0 +1,46 @@
+-- Which command a line of a script is: the JSON object of the command, with exactly these members. Texts are their bytes.
+use Rattle.std.specs.Prelude.{◌≡◌, ℕ, List, [], ◌∷◌, Some, codes}
+use Rattle.std.specs.List.{AllByRecursion}
+use Rattle.std.specs.Str.{IsUtf8}
+use Rattle.serde_json.specs.Data.{Data, string, array, object, Items, no_items, item, no_members, member}
+use Rattle.serde_json.specs.Read.{read}
+use Rattle.cache_key.specs.Names.{IsName, IsKey, IsValue}
+use Rattle.script_lines.specs.declared.command.Command.{Command}
+use Rattle.script_lines.specs.declared.command.Command.TheVariants.{Create, Dump, Steps}
+use Rattle.script_lines.specs.declared.command.Event.{Event}
+use Rattle.script_lines.specs.declared.command.Event.TheVariants.{Get, Put}
+
+-- an event is a list: its name, the cache, the key, and what is put there
+abbrev pub event_data : Event → Data
+event_data (Get cache key) = array (item (string (codes "get")) (item (string cache) (item (string key) no_items)))
+event_data (Put cache key value) = array (item (string (codes "put")) (item (string cache) (item (string key) (item (string value) no_items))))
+
+abbrev pub events_data : List Event → Items
+events_data [] = no_items
+events_data (event ∷ events) = item (event_data event) (events_data events)
+
+-- a command is an object; its members stand in byte order of their names
+abbrev pub command_data : Command → Data
+command_data (Create host) = object (member (codes "do") (string (codes "create")) (member (codes "host") (string host) no_members))
+command_data Dump = object (member (codes "do") (string (codes "dump")) no_members)
+command_data (Steps events) = object (member (codes "do") (string (codes "steps")) (member (codes "events") (array (events_data events)) no_members))
+
+-- the names, keys and values of an event keep their limits
+abbrev pub EventKeepsLimits : Event → Type 0
+EventKeepsLimits (Get cache key) = IsName cache × IsKey key
+EventKeepsLimits (Put cache key value) = IsName cache × IsKey key × IsValue value
+
+abbrev pub KeepsLimits : Command → Type 0
+KeepsLimits (Create host) = IsName host
+KeepsLimits Dump = Unit {0}
+KeepsLimits (Steps events) = AllByRecursion EventKeepsLimits events
+
+-- the line is UTF-8 and JSON, and its value is that of the command
+pub record IsLineOf (line : List ℕ) (command : Command) : Type 0 where
+  pub text : IsUtf8 line
+  pub value : read line ≡ Some (command_data command)
+  pub limits : KeepsLimits command
+
+-- the line has no form
+abbrev pub HasNoForm : List ℕ → Type 0
+HasNoForm line = (command : Command) → IsLineOf line command → ⊥

@@ -1,0 +1,79 @@
+-- What reading a line answers, part by part, for private clauses.
+use Rattle.std.specs.Prelude.{◌≡◌, ℕ, List, Result, Ok, Err}
+use Rattle.std.specs.Ordering.{nat_cmp}
+use Rattle.std.specs.Cmp.Lexicographic.{slice_cmp}
+use Rattle.std.specs.declared.cmp.Ordering.TheVariants.{Less}
+use Rattle.std.specs.List.{AllByRecursion}
+use Rattle.serde_json.specs.Data.{Data, null, boolean, number, string, array, object, Items, no_items, item, Members, no_members, member}
+use Rattle.serde_json.specs.Events.{members_len}
+use Rattle.script_lines.specs.Form.{event_data, events_data, command_data, EventKeepsLimits, KeepsLimits}
+use Rattle.script_lines.specs.declared.command.Command.{Command}
+use Rattle.script_lines.specs.declared.command.Event.{Event}
+use Rattle.script_lines.specs.declared.fault.LineFault.{LineFault}
+use Rattle.script_lines.specs.declared.fault.LineFault.TheVariants.{Form, NoMemory}
+
+-- what is read is so, and where the form is refused nothing is so
+abbrev pub Reads : {X : Type 0} → (X → Type 0) → Result X LineFault → Type 0
+Reads IsSo (Ok x) = IsSo x
+Reads {X} IsSo (Err Form) = (x : X) → IsSo x → ⊥
+Reads IsSo (Err NoMemory) = Unit {0}
+
+-- the text stands there, and keeps its limits
+pub record IsTextOf (KeepsItsLimits : List ℕ → Type 0) (d : Data) (text : List ℕ) : Type 0 where
+  pub is : d ≡ string text
+  pub limits : KeepsItsLimits text
+
+pub record IsEventOf (d : Data) (event : Event) : Type 0 where
+  pub is : d ≡ event_data event
+  pub limits : EventKeepsLimits event
+
+pub record AreEventsIn (ds : Items) (events : List Event) : Type 0 where
+  pub are : ds ≡ events_data events
+  pub limits : AllByRecursion EventKeepsLimits events
+
+-- the list of the events stands there
+pub record AreEventsOf (d : Data) (events : List Event) : Type 0 where
+  pub are : d ≡ array (events_data events)
+  pub limits : AllByRecursion EventKeepsLimits events
+
+pub record IsCommandOf (d : Data) (command : Command) : Type 0 where
+  pub is : d ≡ command_data command
+  pub limits : KeepsLimits command
+
+-- ---- shapes
+
+abbrev pub list_of_three : Data → Data → Data → Data
+list_of_three a b c = array (item a (item b (item c no_items)))
+
+abbrev pub list_of_four : Data → Data → Data → Data → Data
+list_of_four a b c d = array (item a (item b (item c (item d no_items))))
+
+abbrev pub object_of_two : List ℕ → Data → List ℕ → Data → Data
+object_of_two first a second b = object (member first a (member second b no_members))
+
+-- the number of members of an object, none of what is no object
+abbrev pub member_count_of : Data → ℕ
+member_count_of null = 0
+member_count_of (boolean b) = 0
+member_count_of (number n) = 0
+member_count_of (string s) = 0
+member_count_of (array ds) = 0
+member_count_of (object ms) = members_len ms
+
+-- each of these members comes after the name
+abbrev pub IsBefore : List ℕ → Members → Type 0
+IsBefore name no_members = Unit {0}
+IsBefore name (member k d ms) = (slice_cmp nat_cmp name k ≡ Less) × IsBefore name ms
+
+-- the members stand in byte order of their names, each name once
+abbrev pub AreInOrder : Members → Type 0
+AreInOrder no_members = Unit {0}
+AreInOrder (member k d ms) = IsBefore k ms × AreInOrder ms
+
+abbrev pub IsInOrder : Data → Type 0
+IsInOrder null = Unit {0}
+IsInOrder (boolean b) = Unit {0}
+IsInOrder (number n) = Unit {0}
+IsInOrder (string s) = Unit {0}
+IsInOrder (array ds) = Unit {0}
+IsInOrder (object ms) = AreInOrder ms

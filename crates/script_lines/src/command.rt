@@ -1,0 +1,64 @@
+//! What a line of a script asks.
+ghost use Rattle.std.specs.Prelude.{◌≡◌, [], ◌∷◌, ◌++◌, OnOk, OnErr};
+
+use cache_key::{CacheName, HostName, Key, Value};
+use std::alloc::{AllocError, Global};
+use std::marker::Model;
+
+/// What a line of a script asks of the cluster.
+#[derive(Drop)]
+pub enum Command {
+    /// Makes an empty cluster whose one member is the host.
+    Create { host: HostName },
+    /// Shows the contents of every partition.
+    Dump,
+    /// Carries out events, one after the other.
+    Steps { events: Events },
+}
+
+/// One step of a script.
+#[derive(Drop)]
+pub enum Event {
+    /// Asks for the value at the key.
+    Get {
+        cache: CacheName,
+        key: Key,
+    },
+    /// Writes the value at the key, and asks for the previous one.
+    Put {
+        cache: CacheName,
+        key: Key,
+        value: Value,
+    },
+}
+
+/// The events of a command, in their order.
+#[derive(Drop)]
+pub struct Events {
+    events: Vec<Event>,
+}
+
+impl Model for Events {
+    ghost use Rattle.std.specs.Prelude.{List};
+    ghost use Rattle.script_lines.specs.declared.command.Event.{Event};
+
+    ghost Value = { List Event };
+
+    ghost view = { λ list. list.events.items };
+}
+
+impl Events {
+    /// Takes the list as it is.
+    pub fn of(events: Vec<Event>) -> Self
+        ensures { result ≡ events.items }
+    {
+        Events { events }
+    }
+
+    /// Gives the list back.
+    pub fn into_vec(self) -> Vec<Event>
+        ensures { result.items ≡ self }
+    {
+        self.events
+    }
+}

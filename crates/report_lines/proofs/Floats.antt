@@ -1,0 +1,47 @@
+-- No answer and no fault has a float.
+use Rattle.std.proofs.Common.{◌≡◌, List, [], ◌∷◌, false, Some, None, refl}
+use Rattle.serde_json.specs.Written.{has_float, items_have_float, members_have_float}
+use Rattle.cache_model.specs.Caches.{Pairs, Caches}
+use Rattle.script_lines.specs.declared.answer.Answer.{Answer}
+use Rattle.script_lines.specs.declared.answer.Answer.TheVariants.{Created, Dumped, Stepped, Refused}
+use Rattle.script_lines.specs.declared.answer.Outcome.{Outcome}
+use Rattle.script_lines.specs.declared.answer.Outcome.TheVariants.{Value}
+use Rattle.script_lines.specs.declared.answer.Refusal.{Refusal}
+use Rattle.script_lines.specs.declared.answer.Refusal.TheVariants.{Closed, Open, NotMember}
+use Rattle.script_lines.specs.declared.answer.PartitionDump.{PartitionDump}
+use Rattle.report_lines.specs.declared.fault.Fault.{Fault}
+use Rattle.report_lines.specs.declared.fault.Fault.TheVariants.{Words, Script, Read}
+use Rattle.report_lines.specs.Line.{pairs_data, caches_data, dumps_data, outcomes_data, refusal_data, answer_data, fault_data}
+
+members_have_float-pairs_data : (pairs : Pairs) → members_have_float (pairs_data pairs) ≡ false
+members_have_float-pairs_data [] = refl
+members_have_float-pairs_data (pair ∷ pairs) = members_have_float-pairs_data pairs
+
+members_have_float-caches_data : (caches : Caches) → members_have_float (caches_data caches) ≡ false
+members_have_float-caches_data [] = refl
+members_have_float-caches_data (cache ∷ caches) = rw (members_have_float-pairs_data cache.1) (members_have_float-caches_data caches)
+
+items_have_float-dumps_data : (dumps : List PartitionDump) → items_have_float (dumps_data dumps) ≡ false
+items_have_float-dumps_data [] = refl
+items_have_float-dumps_data (dump ∷ dumps) = rw (members_have_float-caches_data dump.caches) (items_have_float-dumps_data dumps)
+
+items_have_float-outcomes_data : (outcomes : List Outcome) → items_have_float (outcomes_data outcomes) ≡ false
+items_have_float-outcomes_data [] = refl
+items_have_float-outcomes_data (Value None ∷ outcomes) = items_have_float-outcomes_data outcomes
+items_have_float-outcomes_data (Value (Some value) ∷ outcomes) = items_have_float-outcomes_data outcomes
+
+has_float-refusal_data : (refusal : Refusal) → has_float (refusal_data refusal) ≡ false
+has_float-refusal_data Closed = refl
+has_float-refusal_data Open = refl
+has_float-refusal_data (NotMember host) = refl
+
+pub has_float-answer_data : (answer : Answer) → has_float (answer_data answer) ≡ false
+has_float-answer_data (Created host) = refl
+has_float-answer_data (Dumped partitions) = rw (items_have_float-dumps_data partitions)
+has_float-answer_data (Stepped outcomes) = rw (items_have_float-outcomes_data outcomes)
+has_float-answer_data (Refused refusal) = has_float-refusal_data refusal
+
+pub has_float-fault_data : (fault : Fault) → has_float (fault_data fault) ≡ false
+has_float-fault_data Words = refl
+has_float-fault_data (Script line) = refl
+has_float-fault_data Read = refl

@@ -1,0 +1,4 @@
+mod Members
+mod Items
+mod Floats
+mod OneLineLemmas

@@ -1,0 +1,81 @@
+-- The line of a report for each answer: compact JSON, the members of each object in byte order, and a line feed. Texts are their bytes.
+use Rattle.std.specs.Prelude.{ℕ, List, [], ◌∷◌, ◌++◌, Option, Some, None, codes}
+use Rattle.serde_json.specs.Data.{Data, null, number, unsigned, string, array, object, Items, no_items, item, Members, no_members, member}
+use Rattle.serde_json.specs.Written.{compact_text}
+use Rattle.cache_model.specs.Caches.{Pairs, Caches}
+use Rattle.store_ident.specs.Ident.{ident_text}
+use Rattle.script_lines.specs.declared.answer.Answer.{Answer}
+use Rattle.script_lines.specs.declared.answer.Answer.TheVariants.{Created, Dumped, Stepped, Refused}
+use Rattle.script_lines.specs.declared.answer.Outcome.{Outcome}
+use Rattle.script_lines.specs.declared.answer.Outcome.TheVariants.{Value}
+use Rattle.script_lines.specs.declared.answer.Refusal.{Refusal}
+use Rattle.script_lines.specs.declared.answer.Refusal.TheVariants.{Closed, Open, NotMember}
+use Rattle.script_lines.specs.declared.answer.PartitionDump.{PartitionDump}
+use Rattle.report_lines.specs.declared.fault.Fault.{Fault}
+use Rattle.report_lines.specs.declared.fault.Fault.TheVariants.{Words, Script, Read}
+
+-- an object with one member
+abbrev pub single : List ℕ → Data → Data
+single name value = object (member name value no_members)
+
+-- ---- contents
+
+abbrev pub pairs_data : Pairs → Members
+pairs_data [] = no_members
+pairs_data (pair ∷ pairs) = member pair.0 (string pair.1) (pairs_data pairs)
+
+abbrev pub caches_data : Caches → Members
+caches_data [] = no_members
+caches_data (cache ∷ caches) = member cache.0 (object (pairs_data cache.1)) (caches_data caches)
+
+abbrev pub dump_data : PartitionDump → Data
+dump_data dump = object (member (codes "caches") (object (caches_data dump.caches))
+    (member (codes "host") (string dump.host)
+    (member (codes "id") (string (ident_text dump.id))
+    (member (codes "partition") (number (unsigned dump.id.partition)) no_members))))
+
+abbrev pub dumps_data : List PartitionDump → Items
+dumps_data [] = no_items
+dumps_data (dump ∷ dumps) = item (dump_data dump) (dumps_data dumps)
+
+-- ---- outcomes of events
+
+abbrev pub optional_data : Option (List ℕ) → Data
+optional_data None = null
+optional_data (Some value) = string value
+
+abbrev pub outcome_data : Outcome → Data
+outcome_data (Value value) = single (codes "value") (optional_data value)
+
+abbrev pub outcomes_data : List Outcome → Items
+outcomes_data [] = no_items
+outcomes_data (outcome ∷ outcomes) = item (outcome_data outcome) (outcomes_data outcomes)
+
+-- ---- answers of commands
+
+abbrev pub refusal_data : Refusal → Data
+refusal_data Closed = single (codes "refused") (string (codes "closed"))
+refusal_data Open = single (codes "refused") (string (codes "open"))
+refusal_data (NotMember host) = object (member (codes "host") (string host) (member (codes "refused") (string (codes "notMember")) no_members))
+
+-- a cluster that was just made has epoch 1
+abbrev pub answer_data : Answer → Data
+answer_data (Created host) = object (member (codes "created") (string host) (member (codes "epoch") (number (unsigned 1)) no_members))
+answer_data (Dumped partitions) = single (codes "dump") (array (dumps_data partitions))
+answer_data (Stepped outcomes) = single (codes "steps") (array (outcomes_data outcomes))
+answer_data (Refused refusal) = refusal_data refusal
+
+-- the line of an answer
+abbrev pub answer_line : Answer → List ℕ
+answer_line answer = compact_text (answer_data answer) ++ 10 ∷ []
+
+-- ---- faults of the program
+
+abbrev pub fault_data : Fault → Data
+fault_data Words = single (codes "fault") (string (codes "words"))
+fault_data (Script line) = object (member (codes "fault") (string (codes "script")) (member (codes "line") (number (unsigned line)) no_members))
+fault_data Read = single (codes "fault") (string (codes "read"))
+
+-- the last line of a run that ends with the fault
+abbrev pub fault_line : Fault → List ℕ
+fault_line fault = compact_text (fault_data fault) ++ 10 ∷ []

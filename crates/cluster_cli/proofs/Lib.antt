@@ -1,0 +1,4 @@
+mod ProgressLemmas
+mod StateLemmas
+mod StatusLemmas
+mod WordsLemmas

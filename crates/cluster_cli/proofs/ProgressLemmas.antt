@@ -1,0 +1,231 @@
+-- A run goes on by a line.
+use Rattle.std.proofs.Common.{◌≡◌, ◌≢◌, ℕ, ◌+◌, ◌<◌, ◌≤◌, List, [], ◌∷◌, ◌++◌, length, take, drop, refl, sym, ◌∙◌, ap, subst, append_assoc, arith, length-append, Option, Some}
+use Rattle.std.specs.Prelude.{flat_map}
+use Rattle.std.specs.Option.{ForSome}
+use Rattle.std.specs.List.{AllByRecursion}
+use Rattle.std.proofs.lemmas.List.{append-nil, take-append-drop}
+use Rattle.std.proofs.lemmas.Grind.{flat_map-append}
+use Rattle.script_lines.specs.declared.command.Command.{Command}
+use Rattle.script_lines.specs.declared.answer.Answer.{Answer}
+use Rattle.script_lines.specs.Form.{IsLineOf}
+use Rattle.cluster_cli.specs.Script.{line_feed, ended, HasNoLineFeed, IsSplit, IsShort, AreCommands}
+use Rattle.report_lines.specs.Line.{answer_line}
+use Rattle.cluster_cli.specs.State.{State, closed, Run}
+use Rattle.cluster_cli.specs.Kept.{state_of}
+use Rattle.cluster_cli.specs.Report.{report_of, IsReported}
+use Rattle.cluster_cli.specs.Progress.{LineStep, IsAnswered, Holds, Reached, Underway}
+use Rattle.cluster_cli.specs.declared.session.Session.{Session}
+use Rattle.cluster_cli.proofs.StateLemmas.{run_more}
+
+pub all_append : {X : Type 0} (P : X → Type 0) (xs ys : List X) → AllByRecursion P xs → AllByRecursion P ys → AllByRecursion P (xs ++ ys)
+all_append P [] ys here there = there
+all_append P (x ∷ xs) ys here there = (here.0, all_append P xs ys here.1 there)
+
+pub commands_more : (lines : List (List ℕ)) (commands : List Command) (byte : ℕ) (bytes : List ℕ) (command : Command)
+    → AreCommands lines commands → IsLineOf (byte ∷ bytes) command → AreCommands (lines ++ (byte ∷ bytes) ∷ []) (commands ++ command ∷ [])
+commands_more [] [] byte bytes command so_far line = (line, tt)
+commands_more [] (c ∷ cs) byte bytes command so_far line = absurd so_far
+commands_more ([] ∷ lines) cs byte bytes command so_far line = commands_more lines cs byte bytes command so_far line
+commands_more ((x ∷ xs) ∷ lines) [] byte bytes command so_far line = absurd so_far
+commands_more ((x ∷ xs) ∷ lines) (c ∷ cs) byte bytes command so_far line = (so_far.0, commands_more lines cs byte bytes command so_far.1 line)
+
+pub commands_empty : (lines : List (List ℕ)) (commands : List Command) → AreCommands lines commands → AreCommands (lines ++ [] ∷ []) commands
+commands_empty [] [] so_far = tt
+commands_empty [] (c ∷ cs) so_far = absurd so_far
+commands_empty ([] ∷ lines) cs so_far = commands_empty lines cs so_far
+commands_empty ((x ∷ xs) ∷ lines) [] so_far = absurd so_far
+commands_empty ((x ∷ xs) ∷ lines) (c ∷ cs) so_far = (so_far.0, commands_empty lines cs so_far.1)
+
+-- the commands and answers with those of one line more
+pub record Grown (hosts : List (List ℕ)) (lines : List (List ℕ)) (report : List ℕ) (new : State) : Type 0 where
+  pub commands : List Command
+  pub answers : List Answer
+  pub spelled : AreCommands lines commands
+  pub run : Run hosts closed commands answers new
+  pub report_is : report_of answers ≡ report
+
+pub grown : (hosts lines : List (List ℕ)) (commands : List Command) (answers : List Answer) (old : State) (line text : List ℕ) (new : State)
+    → AreCommands lines commands → Run hosts closed commands answers old → LineStep hosts old line text new
+    → Grown hosts (lines ++ line ∷ []) (report_of answers ++ text) new
+grown hosts lines commands answers old [] text new spelled run step = record {
+  commands = commands;
+  answers = answers;
+  spelled = commands_empty lines commands spelled;
+  run = subst (λ (s : State). Run hosts closed commands answers s) (sym step.1) run;
+  report_is = rw step.0 (sym (append-nil (report_of answers)));
+}
+grown hosts lines commands answers old (byte ∷ bytes) text new spelled run step = record {
+  commands = commands ++ step.command ∷ [];
+  answers = answers ++ step.answer ∷ [];
+  spelled = commands_more lines commands byte bytes step.command spelled step.line_is;
+  run = run_more hosts closed commands answers old step.command step.answer new run step.step;
+  report_is = flat_map-append answer_line answers (step.answer ∷ []) ∙ ap (λ (t : List ℕ). report_of answers ++ t) (append-nil (answer_line step.answer) ∙ sym step.text_is);
+}
+
+-- the lines with one more, whose line feed has come
+pub whole_more : (lines : List (List ℕ)) (line : List ℕ) → flat_map ended (lines ++ line ∷ []) ≡ flat_map ended lines ++ ended line
+whole_more lines line = flat_map-append ended lines (line ∷ []) ∙ ap (λ (t : List ℕ). flat_map ended lines ++ t) (append-nil (ended line))
+
+pub split_more : (given : List ℕ) (lines : List (List ℕ)) (line : List ℕ) → IsSplit given lines line → IsSplit (given ++ line_feed ∷ []) (lines ++ line ∷ []) []
+split_more given lines line split = record {
+  whole = ap (λ (g : List ℕ). g ++ line_feed ∷ []) split.whole ∙ append_assoc (flat_map ended lines) line (line_feed ∷ []) ∙ sym (whole_more lines line) ∙ sym (append-nil (flat_map ended (lines ++ line ∷ [])));
+  each = all_append HasNoLineFeed lines (line ∷ []) split.each (split.rest, tt);
+  rest = tt;
+}
+
+-- a line with its line feed, by its length
+pub length-whole_more : (lines : List (List ℕ)) (line : List ℕ) → length (flat_map ended (lines ++ line ∷ [])) ≡ length (flat_map ended lines) + (length line + 1)
+length-whole_more lines line = rw (whole_more lines line) (simp length-append (omega arith))
+
+-- the line under way is ended and answered
+pub closes : (hosts : List (List ℕ)) (given before : List ℕ) (old new : Session) (was now : Option (List ℕ)) (line : List ℕ) (state : State)
+    → Reached hosts given before old was
+    → line ≡ old.partial.items → length line ≤ 1048576
+    → ForSome was (λ written. IsAnswered hosts (state_of old.cluster) line written now state)
+    → state_of new.cluster ≡ state → new.partial.items ≡ [] → new.lines ≡ old.lines + 1 → new.passed ≡ old.passed + (length line + 1)
+    → Reached hosts (given ++ line_feed ∷ []) before new now
+closes hosts given before old new was now line state so_far line_is short answered state_is empty lines passed =
+    let here : IsAnswered hosts (state_of old.cluster) line (before ++ report_of so_far.answers) now state = answered (before ++ report_of so_far.answers) so_far.told in
+    let split : IsSplit given so_far.lines line = subst (λ (l : List ℕ). IsSplit given so_far.lines l) (sym line_is) so_far.split in
+    let more = grown hosts so_far.lines so_far.commands so_far.answers (state_of old.cluster) line here.text state so_far.spelled so_far.run here.step in
+    record {
+      lines = so_far.lines ++ line ∷ [];
+      commands = more.commands;
+      answers = more.answers;
+      split = rw empty (split_more given so_far.lines line split);
+      short = all_append IsShort so_far.lines (line ∷ []) so_far.short (short, tt);
+      spelled = more.spelled;
+      run = rw state_is more.run;
+      counted = rw (lines, so_far.counted) (sym (length-append so_far.lines (line ∷ [])));
+      measured = rw (passed, so_far.measured) (sym (length-whole_more so_far.lines line));
+      told = here.told ∙ ap Some (append_assoc before (report_of so_far.answers) here.text ∙ ap (λ (t : List ℕ). before ++ t) (sym more.report_is));
+    }
+
+-- more has come of the line under way
+pub holds : (hosts : List (List ℕ)) (given before : List ℕ) (old new : Session) (more : List ℕ) (written : Option (List ℕ))
+    → Holds old new more → HasNoLineFeed more → Reached hosts given before old written → Reached hosts (given ++ more) before new written
+holds hosts given before old new more written held no_feed so_far = record {
+  lines = so_far.lines;
+  commands = so_far.commands;
+  answers = so_far.answers;
+  split = record {
+    whole = ap (λ (g : List ℕ). g ++ more) so_far.split.whole ∙ append_assoc (flat_map ended so_far.lines) old.partial.items more ∙ ap (λ (t : List ℕ). flat_map ended so_far.lines ++ t) (sym held.partial);
+    each = so_far.split.each;
+    rest = rw held.partial (all_append (λ (byte : ℕ). byte ≢ line_feed) old.partial.items more so_far.split.rest no_feed);
+  };
+  short = so_far.short;
+  spelled = so_far.spelled;
+  run = rw held.cluster so_far.run;
+  counted = held.lines ∙ so_far.counted;
+  measured = held.passed ∙ so_far.measured;
+  told = so_far.told;
+}
+
+-- the piece behind the last line feed is answered too, and the script is at its end
+pub finished : (hosts : List (List ℕ)) (script before : List ℕ) (session : Session) (was now : Option (List ℕ)) (line : List ℕ) (state : State)
+    → Reached hosts script before session was
+    → line ≡ session.partial.items → length line ≤ 1048576
+    → (0 < length line → session.lines < 100000) → session.lines ≤ 100000 → session.passed + length line ≤ 67108864
+    → ForSome was (λ written. IsAnswered hosts (state_of session.cluster) line written now state)
+    → IsReported hosts script before now
+finished hosts script before session was now [] state so_far line_is short below few small answered =
+    let here : IsAnswered hosts (state_of session.cluster) [] (before ++ report_of so_far.answers) now state = answered (before ++ report_of so_far.answers) so_far.told in
+    let split : IsSplit script so_far.lines [] = subst (λ (l : List ℕ). IsSplit script so_far.lines l) (sym line_is) so_far.split in
+    record {
+      report = report_of so_far.answers;
+      is = record {
+        commands = so_far.commands;
+        answers = so_far.answers;
+        last = state_of session.cluster;
+        script_is = record {
+          lines = so_far.lines;
+          piece = [];
+          split = split;
+          spelled = rw (append-nil so_far.lines) so_far.spelled;
+          short = rw (append-nil so_far.lines) so_far.short;
+          few = rw (append-nil so_far.lines, ← so_far.counted) few;
+          small = rw split.whole (simp length-append (omega (arith, so_far.measured, small)));
+        };
+        run = so_far.run;
+        lines = refl;
+      };
+      told = here.told ∙ ap Some (ap (λ (t : List ℕ). (before ++ report_of so_far.answers) ++ t) here.step.0 ∙ append-nil (before ++ report_of so_far.answers));
+    }
+finished hosts script before session was now (byte ∷ bytes) state so_far line_is short below few small answered =
+    let line : List ℕ = byte ∷ bytes in
+    let here : IsAnswered hosts (state_of session.cluster) (byte ∷ bytes) (before ++ report_of so_far.answers) now state = answered (before ++ report_of so_far.answers) so_far.told in
+    let split : IsSplit script so_far.lines (byte ∷ bytes) = subst (λ (l : List ℕ). IsSplit script so_far.lines l) (sym line_is) so_far.split in
+    let more = grown hosts so_far.lines so_far.commands so_far.answers (state_of session.cluster) (byte ∷ bytes) here.text state so_far.spelled so_far.run here.step in
+    record {
+      report = report_of more.answers;
+      is = record {
+        commands = more.commands;
+        answers = more.answers;
+        last = state;
+        script_is = record {
+          lines = so_far.lines;
+          piece = byte ∷ bytes;
+          split = split;
+          spelled = more.spelled;
+          short = all_append IsShort so_far.lines ((byte ∷ bytes) ∷ []) so_far.short (short, tt);
+          few = simp length-append (let fewer = below (omega arith) in omega (arith, so_far.counted, fewer));
+          small = rw split.whole (simp length-append (omega (arith, so_far.measured, small)));
+        };
+        run = more.run;
+        lines = refl;
+      };
+      told = here.told ∙ ap Some (append_assoc before (report_of so_far.answers) here.text ∙ ap (λ (t : List ℕ). before ++ t) (sym more.report_is));
+    }
+
+-- at the start nothing is answered
+pub begun : (hosts : List (List ℕ)) (before : List ℕ) (session : Session) (written : Option (List ℕ))
+    → session.partial.items ≡ [] → session.lines ≡ 0 → session.passed ≡ 0 → state_of session.cluster ≡ closed → written ≡ Some before
+    → Reached hosts [] before session written
+begun hosts before session written empty lines passed state told = record {
+  lines = [];
+  commands = [];
+  answers = [];
+  split = record { whole = sym empty; each = tt; rest = rw empty tt };
+  short = tt;
+  spelled = tt;
+  run = state;
+  counted = lines;
+  measured = passed;
+  told = told ∙ ap Some (sym (append-nil before));
+}
+
+-- a piece, of which a front is taken with the line feed behind it
+pub piece_goes_on : (piece front rest line after : List ℕ) → piece ≡ front ++ rest → rest ≡ line ++ line_feed ∷ after → piece ≡ (front ++ ended line) ++ after
+piece_goes_on piece front rest line after whole split =
+    whole ∙ ap (λ (t : List ℕ). front ++ t) (split ∙ sym (append_assoc line (line_feed ∷ []) after)) ∙ sym (append_assoc front (ended line) after)
+
+-- a piece was read and answered
+pub takes : (hosts : List (List ℕ)) (script before : List ℕ) (old new : Session) (left after was now : Option (List ℕ)) (count : ℕ) (piece : List ℕ)
+    → Underway hosts script before old left was
+    → ForSome left (λ bytes. piece ≡ take count bytes) → ForSome left (λ bytes. after ≡ Some (drop count bytes))
+    → ((given before : List ℕ) → Reached hosts given before old was → Reached hosts (given ++ piece) before new now)
+    → Underway hosts script before new after now
+takes hosts script before old new left after was now count piece so_far piece_is after_is goes = record {
+  given = so_far.given ++ piece;
+  rest = drop count so_far.rest;
+  left_is = after_is so_far.rest so_far.left_is;
+  script_is = so_far.script_is ∙ ap (λ (t : List ℕ). so_far.given ++ t) (sym (take-append-drop count so_far.rest)) ∙ ap (λ (t : List ℕ). so_far.given ++ (t ++ drop count so_far.rest)) (sym (piece_is so_far.rest so_far.left_is)) ∙ sym (append_assoc so_far.given piece (drop count so_far.rest));
+  reached = goes so_far.given before so_far.reached;
+}
+
+-- the source is at its end
+pub ends : (hosts : List (List ℕ)) (script before : List ℕ) (session : Session) (left was : Option (List ℕ))
+    → Underway hosts script before session left was → ForSome left (λ bytes. bytes ≡ []) → Reached hosts script before session was
+ends hosts script before session left was so_far none =
+    subst (λ (s : List ℕ). Reached hosts s before session was) (sym (so_far.script_is ∙ ap (λ (t : List ℕ). so_far.given ++ t) (none so_far.rest so_far.left_is) ∙ append-nil so_far.given)) so_far.reached
+
+-- a read of nothing leaves what was left
+pub nothing_read : (hosts : List (List ℕ)) (script before : List ℕ) (session : Session) (left after was : Option (List ℕ))
+    → Underway hosts script before session left was → ForSome left (λ bytes. after ≡ Some bytes) → Underway hosts script before session after was
+nothing_read hosts script before session left after was so_far same = record {
+  given = so_far.given;
+  rest = so_far.rest;
+  left_is = same so_far.rest so_far.left_is;
+  script_is = so_far.script_is;
+  reached = so_far.reached;
+}

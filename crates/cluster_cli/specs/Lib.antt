@@ -1,0 +1,9 @@
+pub mod Codes
+pub mod Ends
+pub mod Kept
+pub mod Progress
+pub mod Report
+pub mod Script
+pub mod State
+pub mod Stops
+pub mod Words

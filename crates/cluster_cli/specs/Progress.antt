@@ -1,0 +1,63 @@
+-- How far a run has come: which lines are answered, and what is written.
+use Rattle.std.specs.Prelude.{◌≡◌, ℕ, ◌+◌, List, [], ◌∷◌, ◌++◌, length, flat_map, vec_len, Option, Some}
+use Rattle.std.specs.List.{AllByRecursion}
+use Rattle.script_lines.specs.declared.command.Command.{Command}
+use Rattle.script_lines.specs.declared.answer.Answer.{Answer}
+use Rattle.script_lines.specs.Form.{IsLineOf}
+use Rattle.cluster_cli.specs.Script.{ended, IsSplit, IsShort, AreCommands}
+use Rattle.report_lines.specs.Line.{answer_line}
+use Rattle.cluster_cli.specs.State.{State, closed, CommandStep, Run}
+use Rattle.cluster_cli.specs.Kept.{state_of}
+use Rattle.cluster_cli.specs.Report.{report_of}
+use Rattle.cluster_cli.specs.declared.session.Session.{Session}
+
+-- a line that isn't empty is a command, which is carried out; this is its answer's line
+pub record AnswerStep (hosts : List (List ℕ)) (old : State) (line text : List ℕ) (new : State) : Type 0 where
+  pub command : Command
+  pub answer : Answer
+  pub line_is : IsLineOf line command
+  pub step : CommandStep hosts old command answer new
+  pub text_is : text ≡ answer_line answer
+
+-- an empty line is passed over
+abbrev pub LineStep : List (List ℕ) → State → List ℕ → List ℕ → State → Type 0
+LineStep hosts old [] text new = (text ≡ []) × (new ≡ old)
+LineStep hosts old (byte ∷ bytes) text new = AnswerStep hosts old (byte ∷ bytes) text new
+
+-- the line was answered behind what was written before
+pub record IsAnswered (hosts : List (List ℕ)) (old : State) (line before : List ℕ) (written : Option (List ℕ)) (new : State) : Type 0 where
+  pub text : List ℕ
+  pub step : LineStep hosts old line text new
+  pub told : written ≡ Some (before ++ text)
+
+-- more bytes have come of the line under way
+pub record Holds (old new : Session) (more : List ℕ) : Type 0 where
+  pub partial : new.partial.items ≡ old.partial.items ++ more
+  pub lines : new.lines ≡ old.lines
+  pub passed : new.passed ≡ old.passed
+  pub cluster : new.cluster ≡ old.cluster
+
+-- of the bytes that the source gave each ended line is answered, behind what was written before the run
+pub record Reached (hosts : List (List ℕ)) (given before : List ℕ) (session : Session) (written : Option (List ℕ)) : Type 0 where
+  pub lines : List (List ℕ)
+  pub commands : List Command
+  pub answers : List Answer
+  pub split : IsSplit given lines session.partial.items
+  pub short : AllByRecursion IsShort lines
+  pub spelled : AreCommands lines commands
+  pub run : Run hosts closed commands answers (state_of session.cluster)
+  pub counted : session.lines ≡ length lines
+  pub measured : session.passed ≡ length (flat_map ended lines)
+  pub told : written ≡ Some (before ++ report_of answers)
+
+-- how many bytes of the script the session has taken
+abbrev pub taken_bytes : Session → ℕ
+taken_bytes session = session.passed + vec_len session.partial
+
+-- the same, with what the source has left of the script
+pub record Underway (hosts : List (List ℕ)) (script before : List ℕ) (session : Session) (left written : Option (List ℕ)) : Type 0 where
+  pub given : List ℕ
+  pub rest : List ℕ
+  pub left_is : left ≡ Some rest
+  pub script_is : script ≡ given ++ rest
+  pub reached : Reached hosts given before session written

@@ -1,0 +1,26 @@
+-- The report of a script.
+use Rattle.std.specs.Prelude.{◌≡◌, ℕ, List, ◌++◌, flat_map, Option, Some}
+use Rattle.script_lines.specs.declared.command.Command.{Command}
+use Rattle.script_lines.specs.declared.answer.Answer.{Answer}
+use Rattle.cluster_cli.specs.Script.{IsScriptOf}
+use Rattle.report_lines.specs.Line.{answer_line}
+use Rattle.cluster_cli.specs.State.{State, closed, Run}
+
+-- one line for each answer
+abbrev pub report_of : List Answer → List ℕ
+report_of answers = flat_map answer_line answers
+
+-- on a site with these hosts the bytes are the report of all of the script's commands, and no line of the script is faulty
+pub record IsReportOf (hosts : List (List ℕ)) (script bytes : List ℕ) : Type 0 where
+  pub commands : List Command
+  pub answers : List Answer
+  pub last : State
+  pub script_is : IsScriptOf script commands
+  pub run : Run hosts closed commands answers last
+  pub lines : bytes ≡ report_of answers
+
+-- the report stands behind what was written before
+pub record IsReported (hosts : List (List ℕ)) (script before : List ℕ) (written : Option (List ℕ)) : Type 0 where
+  pub report : List ℕ
+  pub is : IsReportOf hosts script report
+  pub told : written ≡ Some (before ++ report)

@@ -5,11 +5,11 @@ use Rattle.disk_trait.specs.Calls.{Torn, Shorn, Moved, Passes, Cause, written}
 use Rattle.disk_trait.specs.declared.DiskRefusal.{DiskRefusal}
 use Rattle.disk_trait.specs.declared.DiskRefusal.TheVariants.{Failed}
 use Rattle.disk_memory.specs.Change.{Change, Wrote, Trimmed, Synced, Restarted}
-use Rattle.disk_memory.specs.Replay.{Held}
+use Rattle.disk_memory.specs.Replay.{Held, held_by}
 use Rattle.disk_memory.specs.Told.{AfterChanges, Since, memory_view, seen_by, taken_by}
 use Rattle.disk_memory.specs.Restarts.{Restarts}
 use Rattle.disk_memory.specs.History.{one_more_than}
-use Rattle.disk_memory.proofs.ToldLemmas.{told, passes, write_seen, write_seen_others, write_follows, cut_seen, cut_seen_others, cut_follows, sync_seen, sync_durable, sync_fewer, restart_here, restart_fewer, restart_durable}
+use Rattle.disk_memory.proofs.ToldLemmas.{told, others_left, write_others, cut_others, sync_others, passes, write_seen, write_seen_others, write_follows, cut_seen, cut_seen_others, cut_follows, sync_seen, sync_durable, sync_fewer, restart_here, restart_fewer, restart_durable}
 
 -- the pick is the same, in other words
 module _ (pick pick' : ℕ) (same : pick' ≡ pick) (changes later : List Change) where
@@ -48,6 +48,29 @@ module _ (pick pick' : ℕ) (same : pick' ≡ pick) (changes later : List Change
 
   pub write_others_read : (file at : ℕ) (bytes : List ℕ) → later ≡ changes ++ Wrote file at bytes ∷ [] → (f : ℕ) → f ≢ file → seen_by pick' later f ≡ seen_by pick changes f
   write_others_read file at bytes is f ne = seen_as f ∙ write_seen_others pick changes later file at bytes is f ne
+
+  -- of the other files a stop may leave what it might have left before
+  others_as : (file : ℕ) → ((f : ℕ) → f ≢ file → held_by pick later f ≡ held_by pick changes f)
+      → (m : Image) → AfterChanges pick changes m → (n : Image) × AfterChanges pick' later n × ((f : ℕ) → f ≢ file → n f ≡ m f)
+  others_as file others m is =
+      let left = others_left pick file changes later others m is in
+      (left.0, subst (λ (k : ℕ). AfterChanges k later left.0) (sym same) left.1, left.2)
+
+  pub write_keeps_others : (file at : ℕ) (bytes : List ℕ) → later ≡ changes ++ Wrote file at bytes ∷ []
+      → (m : Image) → AfterChanges pick changes m → (n : Image) × AfterChanges pick' later n × ((f : ℕ) → f ≢ file → n f ≡ m f)
+  write_keeps_others file at bytes is = others_as file (write_others pick changes later file at bytes is)
+
+  pub cut_keeps_others : (file to : ℕ) → later ≡ changes ++ Trimmed file to ∷ []
+      → (m : Image) → AfterChanges pick changes m → (n : Image) × AfterChanges pick' later n × ((f : ℕ) → f ≢ file → n f ≡ m f)
+  cut_keeps_others file to is = others_as file (cut_others pick changes later file to is)
+
+  pub sync_keeps_others : (file : ℕ) → later ≡ changes ++ Synced file ∷ []
+      → (m : Image) → AfterChanges pick changes m → (n : Image) × AfterChanges pick' later n × ((f : ℕ) → f ≢ file → n f ≡ m f)
+  sync_keeps_others file is = others_as file (sync_others pick changes later file is)
+
+  pub unchanged_others : (file : ℕ) → later ≡ changes
+      → (m : Image) → AfterChanges pick changes m → (n : Image) × AfterChanges pick' later n × ((f : ℕ) → f ≢ file → n f ≡ m f)
+  unchanged_others file is = others_as file (λ f ne. ap (λ (l : List Change). held_by pick l f) is)
 
   pub unchanged_images : (file : ℕ) (step : List ℕ → List ℕ → Type 0) → ((bytes : List ℕ) → step bytes bytes) → later ≡ changes
       → (n : Image) → AfterChanges pick' later n → (o : Image) × AfterChanges pick changes o × Moved file step o n

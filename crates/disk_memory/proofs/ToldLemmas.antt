@@ -127,6 +127,20 @@ module _ (pick file : ℕ) (old new : ℕ → Held) (others : (f : ℕ) → f �
         },
       )
 
+-- what a stop may leave of the other files it may still leave
+pub others_left : (pick file : ℕ) (changes later : List Change) → ((f : ℕ) → f ≢ file → held_by pick later f ≡ held_by pick changes f)
+    → (m : Image) → AfterChanges pick changes m → (n : Image) × AfterChanges pick later n × ((f : ℕ) → f ≢ file → n f ≡ m f)
+others_left pick file changes later others m is =
+    let seen = seen_by pick later file in
+    let n : Image = put m file seen in (
+      n,
+      λ f. ⊎_elim
+          (λ e. subst (λ (k : ℕ). IsImage (held_by pick later k) (n k)) (sym e) (subst (λ (l : List ℕ). IsImage (held_by pick later file) l) (sym (if_same file file seen (m file) refl)) (always_sound pick later file).seen))
+          (λ ne. subst (λ (l : List ℕ). IsImage (held_by pick later f) l) (sym (if_other f file seen (m f) ne)) (subst (λ (h : Held). IsImage h (m f)) (sym (others f ne)) (is f)))
+          (cases_eq f file),
+      λ f ne. if_other f file seen (m f) ne,
+    )
+
 -- ---- a write
 
 pub laid_within : (bytes : List ℕ) (at : ℕ) (more : List ℕ) → at ≤ length bytes → laid bytes at more ≡ written bytes at more

@@ -3,7 +3,7 @@ ghost use Rattle.std.specs.Prelude.{◌≡◌, ◌≢◌, ◌⊎◌, ℕ, ◌+�
 ghost use Rattle.std.specs.List.{Contains};
 ghost use Rattle.disk_trait.specs.declared.DiskRefusal.TheVariants.{Failed, NoMemory};
 ghost use Rattle.disk_trait.specs.View.{Image, Tells};
-ghost use Rattle.disk_trait.specs.Calls.{written, Torn, Shorn, Moved, Follows, Passes, Fewer, Same, Cause};
+ghost use Rattle.disk_trait.specs.Calls.{written, Torn, Shorn, Moved, Follows, Passes, Fewer, Same, Cause, KeepsOthers};
 ghost use Rattle.disk_memory.specs.Change.{Wrote, Trimmed, Synced};
 ghost use Rattle.disk_memory.specs.Told.{taken_by};
 ghost use Rattle.disk_memory.specs.History.{history_of, view_of, planned, one_more_than, IsMet, NextFails, NextReadFails, FailsBy, ReadFailsBy, after_read, Adds, IsRestarted};
@@ -168,6 +168,7 @@ impl Disk for MemoryDisk {
         ensures below { OnOk result (at + length bytes.now < 2 ^ 63) }
         ensures others { (f : ℕ) → f ≢ file → (view_of self.new).seen f ≡ (view_of self.old).seen f }
         ensures images { Follows (Moved file (Torn at (length bytes.now))) (view_of self.old) (view_of self.new) }
+        ensures others_stay { KeepsOthers file (view_of self.old) (view_of self.new) }
         ensures tells { Tells (view_of self.old) → Tells (view_of self.new) }
         ensures time { Passes (view_of self.old) (view_of self.new) }
         ensures as_before { IsErrOf result NoMemory → Same (view_of self.old) (view_of self.new) }
@@ -188,6 +189,7 @@ impl Disk for MemoryDisk {
         ensures cut { OnOk result (Tells (view_of self.old) → (view_of self.new).seen file ≡ take to ((view_of self.old).seen file)) }
         ensures others { (f : ℕ) → f ≢ file → (view_of self.new).seen f ≡ (view_of self.old).seen f }
         ensures images { Follows (Moved file (Shorn to)) (view_of self.old) (view_of self.new) }
+        ensures others_stay { KeepsOthers file (view_of self.old) (view_of self.new) }
         ensures tells { Tells (view_of self.old) → Tells (view_of self.new) }
         ensures time { Passes (view_of self.old) (view_of self.new) }
         ensures as_before { IsErrOf result NoMemory → Same (view_of self.old) (view_of self.new) }
@@ -205,6 +207,7 @@ impl Disk for MemoryDisk {
         ensures durable { OnOk result ((m : Image) → (view_of self.new).images m → m file ≡ (view_of self.old).seen file) }
         ensures seen { (f : ℕ) → (view_of self.new).seen f ≡ (view_of self.old).seen f }
         ensures images { Fewer (view_of self.old) (view_of self.new) }
+        ensures others_stay { KeepsOthers file (view_of self.old) (view_of self.new) }
         ensures refused { OnErr result (Same (view_of self.old) (view_of self.new)) }
         ensures tells { Tells (view_of self.old) → Tells (view_of self.new) }
         ensures time { Passes (view_of self.old) (view_of self.new) }

@@ -2,7 +2,7 @@
 ghost use Rattle.std.specs.Prelude.{◌≡◌, ◌≢◌, ℕ, ◌+◌, ◌-◌, ◌<◌, ◌≤◌, ◌^◌, length, take, drop, min, IfOk, OnOk, OnErr, IsErrOf};
 ghost use Rattle.disk_trait.specs.declared.DiskRefusal.TheVariants.{NoMemory};
 ghost use Rattle.disk_trait.specs.View.{Image, View, Tells};
-ghost use Rattle.disk_trait.specs.Calls.{written, Torn, Shorn, Moved, Follows, Passes, Fewer, Same, Cause};
+ghost use Rattle.disk_trait.specs.Calls.{written, Torn, Shorn, Moved, Follows, Passes, Fewer, Same, Cause, KeepsOthers};
 
 use crate::DiskRefusal;
 
@@ -46,6 +46,7 @@ pub trait Disk {
         ensures below { OnOk result (at + length bytes.now < 2 ^ 63) }
         ensures others { (f : ℕ) → f ≢ file → (view self.new).seen f ≡ (view self.old).seen f }
         ensures images { Follows (Moved file (Torn at (length bytes.now))) (view self.old) (view self.new) }
+        ensures others_stay { KeepsOthers file (view self.old) (view self.new) }
         ensures tells { Tells (view self.old) → Tells (view self.new) }
         ensures time { Passes (view self.old) (view self.new) }
         ensures as_before { IsErrOf result NoMemory → Same (view self.old) (view self.new) }
@@ -60,6 +61,7 @@ pub trait Disk {
         ensures cut { OnOk result (Tells (view self.old) → (view self.new).seen file ≡ take to ((view self.old).seen file)) }
         ensures others { (f : ℕ) → f ≢ file → (view self.new).seen f ≡ (view self.old).seen f }
         ensures images { Follows (Moved file (Shorn to)) (view self.old) (view self.new) }
+        ensures others_stay { KeepsOthers file (view self.old) (view self.new) }
         ensures tells { Tells (view self.old) → Tells (view self.new) }
         ensures time { Passes (view self.old) (view self.new) }
         ensures as_before { IsErrOf result NoMemory → Same (view self.old) (view self.new) }
@@ -73,6 +75,7 @@ pub trait Disk {
         ensures durable { OnOk result ((m : Image) → (view self.new).images m → m file ≡ (view self.old).seen file) }
         ensures seen { (f : ℕ) → (view self.new).seen f ≡ (view self.old).seen f }
         ensures images { Fewer (view self.old) (view self.new) }
+        ensures others_stay { KeepsOthers file (view self.old) (view self.new) }
         ensures refused { OnErr result (Same (view self.old) (view self.new)) }
         ensures tells { Tells (view self.old) → Tells (view self.new) }
         ensures time { Passes (view self.old) (view self.new) }

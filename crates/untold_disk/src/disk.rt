@@ -46,6 +46,7 @@ fn counted<T: Drop>(faults: &mut u64, answer: Result<T, DiskRefusal>) -> Result<
     answer
 }
 
+#[tactic(auto, unfolding(disk_trait::specs::Calls::KeepsOthers))]
 impl<H: Host + Drop> Disk for UntoldDisk<H> {
     ghost view = { λ disk. untold disk.faults };
 

@@ -1,4 +1,7 @@
+mod FaultLemmas
 mod ProgressLemmas
+mod ReadLemmas
 mod StateLemmas
 mod StatusLemmas
+mod WholeLemmas
 mod WordsLemmas

@@ -1,7 +1,9 @@
 pub mod Codes
 pub mod Ends
+pub mod Faults
 pub mod Kept
 pub mod Progress
+pub mod Reads
 pub mod Report
 pub mod Script
 pub mod State

@@ -1,5 +1,5 @@
 -- How far a run has come: which lines are answered, and what is written.
-use Rattle.std.specs.Prelude.{◌≡◌, ℕ, ◌+◌, List, [], ◌∷◌, ◌++◌, length, flat_map, vec_len, Option, Some}
+use Rattle.std.specs.Prelude.{◌≡◌, ℕ, ◌+◌, ◌<◌, ◌≤◌, List, [], ◌∷◌, ◌++◌, length, flat_map, vec_len, Option, Some}
 use Rattle.std.specs.List.{AllByRecursion}
 use Rattle.script_lines.specs.declared.command.Command.{Command}
 use Rattle.script_lines.specs.declared.answer.Answer.{Answer}
@@ -36,6 +36,12 @@ pub record Holds (old new : Session) (more : List ℕ) : Type 0 where
   pub lines : new.lines ≡ old.lines
   pub passed : new.passed ≡ old.passed
   pub cluster : new.cluster ≡ old.cluster
+
+-- with these bytes the line under way, which is this one, is past a limit
+pub record IsPast (session : Session) (more : List ℕ) (n : ℕ) : Type 0 where
+  pub number : n ≡ session.lines + 1
+  pub some : 0 < vec_len session.partial + length more
+  pub past : vec_len session.partial + length more ≤ 1048576 → session.lines < 100000 → session.passed + (vec_len session.partial + length more) ≤ 67108864 → ⊥
 
 -- of the bytes that the source gave each ended line is answered, behind what was written before the run
 pub record Reached (hosts : List (List ℕ)) (given before : List ℕ) (session : Session) (written : Option (List ℕ)) : Type 0 where

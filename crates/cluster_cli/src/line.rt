@@ -26,6 +26,7 @@ pub fn answer_line<K: Sink>(
 ) -> Result<(), Stop>
     ensures told { OnOk result (ForSome (K.written sink.old) (λ before. IsAnswered hosts.now (state_of cluster.old) line.now before (K.written sink.new) (state_of cluster.new))) }
     ensures form { (n : ℕ) → IsErrOf result (Stop.Faulty n) → (n ≡ number) × (line.now ≢ []) × HasNoForm line.now }
+    ensures kept { (n : ℕ) → IsErrOf result (Stop.Faulty n) → K.written sink.new ≡ K.written sink.old }
     ensures cause { IsErrOf result Stop.WriteFault → Rose (K.faults sink.old) (K.faults sink.new) }
     ensures no_read { result ≢ Err Stop.ReadFault }
     ensures later { K.faults sink.old ≤ K.faults sink.new }

@@ -1,12 +1,16 @@
 //! The top call.
-ghost use Rattle.std.specs.Prelude.{◌≡◌, ◌≢◌, ℕ, ◌<◌, ◌≤◌, List, IfOk, OnOk, IsErrOf, IsTrue, IsFalse, length, vec_len, Some};
+ghost use Rattle.std.specs.Prelude.{◌≡◌, ◌≢◌, ◌⊎◌, ℕ, ◌<◌, ◌≤◌, List, IfOk, OnOk, IsErrOf, IsTrue, IsFalse, length, vec_len, Some};
 ghost use Rattle.fault_count.specs.Rose.{Rose};
 ghost use Rattle.report_lines.specs.declared.fault.Fault.TheVariants as faults;
 ghost use Rattle.cluster_cli.specs.Words.{IsPlan, HasNoPlan, words_of};
 ghost use Rattle.cluster_cli.specs.Report.{IsReported};
 ghost use Rattle.cluster_cli.specs.Progress.{Reached, Underway, taken_bytes};
 ghost use Rattle.cluster_cli.specs.Ends.{EndsWith, IsSiteOf};
+ghost use Rattle.cluster_cli.specs.Faults.{StopsAt, IsReportedToFault};
+ghost use Rattle.cluster_cli.specs.Reads.{IsReportedSoFar, IsReportedToRead};
+ghost use Rattle.cluster_cli.specs.Script.{IsScriptOf};
 ghost use Rattle.cluster_cli.specs.Codes.{IsOfNoPlan};
+ghost use Rattle.script_lines.specs.declared.command.Command.{Command};
 
 use crate::script::{begin, finish, take_piece};
 use crate::session::{Session, Stop};
@@ -41,10 +45,15 @@ pub fn run_steps<R, S: Source, K: Sink, D, V>(
     // What else ends a run.
     ensures words { result.status ≡ 1 → HasNoPlan (words_of words.now) }
     ensures told { result.status ≡ 1 → EndsWith faults.Words (K.written sink.old) (K.written sink.new) }
+    ensures faulty { result.status ≡ 2 → (script before : List ℕ) → S.left source.old ≡ Some script → K.written sink.old ≡ Some before → IsReportedToFault site.hosts.items script before (K.written sink.new) }
     ensures no_plan { HasNoPlan (words_of words.now) → (result.status ≢ 0) × (result.status ≢ 2) × (result.status ≢ 3) }
     ensures read { result.status ≡ 3 → Rose (S.faults source.old) (S.faults source.new) }
+    ensures stopped { result.status ≡ 3 → (script before : List ℕ) → S.left source.old ≡ Some script → K.written sink.old ≡ Some before → IsReportedToRead site.hosts.items script before (S.left source.new) (K.written sink.new) }
     ensures write { result.status ≡ 4 → Rose (K.faults sink.old) (K.faults sink.new) }
     ensures known { result.status ≤ 5 }
+
+    // A good script is answered, unless a stream fails or memory is wanted.
+    ensures complete { (script before : List ℕ) (commands : List Command) (hosts : List (List ℕ)) (count : ℕ) → S.left source.old ≡ Some script → K.written sink.old ≡ Some before → IsPlan (words_of words.now) hosts count → IsScriptOf script commands → (Rose (S.faults source.old) (S.faults source.new) → ⊥) → (Rose (K.faults sink.old) (K.faults sink.new) → ⊥) → (result.status ≡ 0) ⊎ (result.status ≡ 5) }
 
     ensures unchanged { result.site ≡ site }
 {
@@ -66,6 +75,8 @@ fn run_words<S: Source, K: Sink>(
     ensures report { result ≡ Status.Done → (script before : List ℕ) → S.left source.old ≡ Some script → K.written sink.old ≡ Some before → IsReported hosts.now script before (K.written sink.new) }
     ensures words { result ≡ Status.WordFault → HasNoPlan (words_of words.now) }
     ensures told { result ≡ Status.WordFault → EndsWith faults.Words (K.written sink.old) (K.written sink.new) }
+    ensures faulty { result ≡ Status.ScriptFault → (script before : List ℕ) → S.left source.old ≡ Some script → K.written sink.old ≡ Some before → IsReportedToFault hosts.now script before (K.written sink.new) }
+    ensures stopped { result ≡ Status.ReadFault → (script before : List ℕ) → S.left source.old ≡ Some script → K.written sink.old ≡ Some before → IsReportedToRead hosts.now script before (S.left source.new) (K.written sink.new) }
     ensures no_plan { HasNoPlan (words_of words.now) → IsOfNoPlan result }
     ensures read { result ≡ Status.ReadFault → Rose (S.faults source.old) (S.faults source.new) }
     ensures write { result ≡ Status.WriteFault → Rose (K.faults sink.old) (K.faults sink.new) }
@@ -87,6 +98,8 @@ fn run_plan<S: Source, K: Sink>(
 ) -> Status
     ensures report { result ≡ Status.Done → (script before : List ℕ) → S.left source.old ≡ Some script → K.written sink.old ≡ Some before → IsReported hosts.now script before (K.written sink.new) }
     ensures words { result ≢ Status.WordFault }
+    ensures faulty { result ≡ Status.ScriptFault → (script before : List ℕ) → S.left source.old ≡ Some script → K.written sink.old ≡ Some before → IsReportedToFault hosts.now script before (K.written sink.new) }
+    ensures stopped { result ≡ Status.ReadFault → (script before : List ℕ) → S.left source.old ≡ Some script → K.written sink.old ≡ Some before → IsReportedToRead hosts.now script before (S.left source.new) (K.written sink.new) }
     ensures read { result ≡ Status.ReadFault → Rose (S.faults source.old) (S.faults source.new) }
     ensures write { result ≡ Status.WriteFault → Rose (K.faults sink.old) (K.faults sink.new) }
 {
@@ -130,6 +143,8 @@ fn run_script<S: Source, K: Sink>(
     sink: &mut K,
 ) -> Result<(), Stop>
     ensures told { OnOk result ((script before : List ℕ) → S.left source.old ≡ Some script → K.written sink.old ≡ Some before → IsReported hosts.now script before (K.written sink.new)) }
+    ensures faulty { (n : ℕ) → IsErrOf result (Stop.Faulty n) → (script before : List ℕ) → S.left source.old ≡ Some script → K.written sink.old ≡ Some before → StopsAt hosts.now script before n (K.written sink.new) }
+    ensures stopped { IsErrOf result Stop.ReadFault → (script before : List ℕ) → S.left source.old ≡ Some script → K.written sink.old ≡ Some before → IsReportedSoFar hosts.now script before (S.left source.new) (K.written sink.new) }
     ensures read { IsErrOf result Stop.ReadFault → Rose (S.faults source.old) (S.faults source.new) }
     ensures write { IsErrOf result Stop.WriteFault → Rose (K.faults sink.old) (K.faults sink.new) }
     ensures later { K.faults sink.old ≤ K.faults sink.new }
@@ -160,6 +175,8 @@ fn answer_pieces<S: Source, K: Sink>(
 ) -> Result<(), Stop>
     requires { 0 < length room.old }
     ensures told { OnOk result ((script before : List ℕ) → Underway hosts.now script before session.old (S.left source.old) (K.written sink.old) → Reached hosts.now script before session.new (K.written sink.new)) }
+    ensures faulty { (n : ℕ) → IsErrOf result (Stop.Faulty n) → (script before : List ℕ) → Underway hosts.now script before session.old (S.left source.old) (K.written sink.old) → StopsAt hosts.now script before n (K.written sink.new) }
+    ensures stopped { IsErrOf result Stop.ReadFault → (script before : List ℕ) → Underway hosts.now script before session.old (S.left source.old) (K.written sink.old) → Underway hosts.now script before session.new (S.left source.new) (K.written sink.new) }
     ensures read { IsErrOf result Stop.ReadFault → Rose (S.faults source.old) (S.faults source.new) }
     ensures write { IsErrOf result Stop.WriteFault → Rose (K.faults sink.old) (K.faults sink.new) }
     ensures later { K.faults sink.old ≤ K.faults sink.new }
@@ -179,8 +196,10 @@ fn read_piece<S: Source, K: Sink>(
 ) -> Result<bool, Stop>
     requires { 0 < length room.old }
     ensures told { OnOk result ((script before : List ℕ) → Underway hosts.now script before session.old (S.left source.old) (K.written sink.old) → Underway hosts.now script before session.new (S.left source.new) (K.written sink.new)) }
+    ensures faulty { (n : ℕ) → IsErrOf result (Stop.Faulty n) → (script before : List ℕ) → Underway hosts.now script before session.old (S.left source.old) (K.written sink.old) → StopsAt hosts.now script before n (K.written sink.new) }
     ensures end { IfOk result (λ more. IsFalse more → (script before : List ℕ) → Underway hosts.now script before session.old (S.left source.old) (K.written sink.old) → Reached hosts.now script before session.new (K.written sink.new)) }
     ensures size { IfOk result (λ more. IsTrue more → taken_bytes session.old < taken_bytes session.new) }
+    ensures stopped { IsErrOf result Stop.ReadFault → (script before : List ℕ) → Underway hosts.now script before session.old (S.left source.old) (K.written sink.old) → Underway hosts.now script before session.new (S.left source.new) (K.written sink.new) }
     ensures read { IsErrOf result Stop.ReadFault → Rose (S.faults source.old) (S.faults source.new) }
     ensures write { IsErrOf result Stop.WriteFault → Rose (K.faults sink.old) (K.faults sink.new) }
     ensures read_later { S.faults source.old ≤ S.faults source.new }

@@ -2,8 +2,9 @@
 ghost use Rattle.std.specs.Prelude.{◌≡◌, ◌≢◌, ℕ, ◌+◌, ◌<◌, ◌≤◌, List, [], ◌∷◌, ◌++◌, length, take, drop, OnOk, IfSome, IfNone, IsErrOf, Option, Some};
 ghost use Rattle.fault_count.specs.Rose.{Rose};
 ghost use Rattle.cluster_cli.specs.Script.{line_feed, ended, HasNoLineFeed};
-ghost use Rattle.cluster_cli.specs.Progress.{Holds, Reached, taken_bytes};
+ghost use Rattle.cluster_cli.specs.Progress.{Holds, IsPast, Reached, taken_bytes};
 ghost use Rattle.cluster_cli.specs.Report.{IsReported};
+ghost use Rattle.cluster_cli.specs.Faults.{StopsAt};
 
 use crate::cluster::Cluster;
 use crate::line::answer_line;
@@ -45,6 +46,7 @@ fn split_line(bytes: &[u8]) -> Option<(&[u8], &[u8])>
 // Adds what has come of the line under way, which is judged by the limits.
 fn hold(session: &mut Session, more: &[u8]) -> Result<(), Stop>
     ensures held { OnOk result (Holds session.old session.new more.now) }
+    ensures past { (n : ℕ) → IsErrOf result (Stop.Faulty n) → IsPast session.old more.now n }
     ensures size { OnOk result (taken_bytes session.new ≡ taken_bytes session.old + length more.now) }
     ensures no_read { result ≢ Err Stop.ReadFault }
     ensures no_write { result ≢ Err Stop.WriteFault }
@@ -73,6 +75,7 @@ fn close<K: Sink>(
     session: &mut Session,
 ) -> Result<(), Stop>
     ensures told { OnOk result ((given before : List ℕ) → Reached hosts.now given before session.old (K.written sink.old) → Reached hosts.now (given ++ line_feed ∷ []) before session.new (K.written sink.new)) }
+    ensures faulty { (n : ℕ) → IsErrOf result (Stop.Faulty n) → (given before after : List ℕ) → Reached hosts.now given before session.old (K.written sink.old) → StopsAt hosts.now (given ++ line_feed ∷ after) before n (K.written sink.new) }
     ensures size { OnOk result (taken_bytes session.new ≡ taken_bytes session.old + 1) }
     ensures cause { IsErrOf result Stop.WriteFault → Rose (K.faults sink.old) (K.faults sink.new) }
     ensures no_read { result ≢ Err Stop.ReadFault }
@@ -108,6 +111,7 @@ fn end_line<K: Sink>(
     rest: &[u8],
 ) -> Result<(), Stop>
     ensures told { OnOk result (HasNoLineFeed rest.now → (given before : List ℕ) → Reached hosts.now given before session.old (K.written sink.old) → Reached hosts.now (given ++ ended rest.now) before session.new (K.written sink.new)) }
+    ensures faulty { (n : ℕ) → IsErrOf result (Stop.Faulty n) → HasNoLineFeed rest.now → (given before after : List ℕ) → Reached hosts.now given before session.old (K.written sink.old) → StopsAt hosts.now (given ++ (ended rest.now ++ after)) before n (K.written sink.new) }
     ensures size { OnOk result (taken_bytes session.new ≡ taken_bytes session.old + (length rest.now + 1)) }
     ensures cause { IsErrOf result Stop.WriteFault → Rose (K.faults sink.old) (K.faults sink.new) }
     ensures no_read { result ≢ Err Stop.ReadFault }
@@ -127,6 +131,7 @@ pub fn take_piece<K: Sink>(
     piece: &[u8],
 ) -> Result<(), Stop>
     ensures told { OnOk result ((given before : List ℕ) → Reached hosts.now given before session.old (K.written sink.old) → Reached hosts.now (given ++ piece.now) before session.new (K.written sink.new)) }
+    ensures faulty { (n : ℕ) → IsErrOf result (Stop.Faulty n) → (given before after : List ℕ) → Reached hosts.now given before session.old (K.written sink.old) → StopsAt hosts.now (given ++ (piece.now ++ after)) before n (K.written sink.new) }
     ensures size { OnOk result (taken_bytes session.new ≡ taken_bytes session.old + length piece.now) }
     ensures cause { IsErrOf result Stop.WriteFault → Rose (K.faults sink.old) (K.faults sink.new) }
     ensures no_read { result ≢ Err Stop.ReadFault }
@@ -149,6 +154,7 @@ pub fn finish<K: Sink>(
     session: &mut Session,
 ) -> Result<(), Stop>
     ensures told { OnOk result ((script before : List ℕ) → Reached hosts.now script before session.old (K.written sink.old) → IsReported hosts.now script before (K.written sink.new)) }
+    ensures faulty { (n : ℕ) → IsErrOf result (Stop.Faulty n) → (script before : List ℕ) → Reached hosts.now script before session.old (K.written sink.old) → StopsAt hosts.now script before n (K.written sink.new) }
     ensures cause { IsErrOf result Stop.WriteFault → Rose (K.faults sink.old) (K.faults sink.new) }
     ensures no_read { result ≢ Err Stop.ReadFault }
     ensures later { K.faults sink.old ≤ K.faults sink.new }

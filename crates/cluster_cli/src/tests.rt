@@ -245,12 +245,19 @@ fn expect_ending(rt: &impl Abort, alloc: Global, cut: Cut, want: (u8, &str, &str
 }
 
 #[test]
-fn a_failing_stream_ends_the_run(rt: HostRuntime) {
+fn each_failing_call_ends_the_run(rt: HostRuntime) {
     let created = "{\"created\":\"a\",\"epoch\":1}\n";
-    // The first line has 27 bytes with its line feed, so with pieces of 27 the second read begins with line 2.
-    for (failing_read, lines, last) in [
-        (1, "", "{\"fault\":\"read\"}\n"),
-        (2, created, "{\"fault\":\"read\"}\n"),
+    let stepped = "{\"created\":\"a\",\"epoch\":1}
+{\"steps\":[{\"value\":null},{\"value\":\"1\"}]}
+";
+    // The lines have 27, 62 and 14 bytes with their line feeds: reads of 27 end line 1 in the first, lines 2 and 3
+    // in the fourth, and the fifth finds the end.
+    for (failing_read, lines) in [
+        (1, ""),
+        (2, created),
+        (3, created),
+        (4, created),
+        (5, FIRST_PUT_REPORT),
     ] {
         let cut = Cut {
             read: 27,
@@ -258,9 +265,9 @@ fn a_failing_stream_ends_the_run(rt: HostRuntime) {
             failing_read,
             failing_write: 0,
         };
-        expect_ending(&rt, rt.alloc(), cut, (3, lines, last));
+        expect_ending(&rt, rt.alloc(), cut, (3, lines, "{\"fault\":\"read\"}\n"));
     }
-    for (failing_write, lines) in [(1, ""), (2, created)] {
+    for (failing_write, lines) in [(1, ""), (2, created), (3, stepped)] {
         let cut = Cut {
             read: 65_536,
             write: 65_536,
@@ -268,5 +275,47 @@ fn a_failing_stream_ends_the_run(rt: HostRuntime) {
             failing_write,
         };
         expect_ending(&rt, rt.alloc(), cut, (4, lines, ""));
+    }
+}
+
+// The text, and behind it the byte so many times.
+fn followed(rt: &impl Abort, alloc: Global, text: &str, byte: u8, count: usize) -> Vec<u8> {
+    let mut bytes = text.as_bytes().to_vec(alloc).expect(rt, "a text");
+    let tail = vec![in alloc; byte; count].expect(rt, "a tail");
+    bytes.extend_from_slice(&tail).expect(rt, "a script");
+    bytes
+}
+
+#[test]
+fn a_script_keeps_its_limits(rt: HostRuntime) {
+    // The command has 13 bytes, and a line may have 1,048,576.
+    for (case, text, byte, count, want) in [
+        (
+            "the longest line",
+            "{\"do\":\"dump\"}",
+            b' ',
+            1_048_563,
+            (0, "{\"refused\":\"closed\"}\n"),
+        ),
+        (
+            "a line too long",
+            "{\"do\":\"dump\"}",
+            b' ',
+            1_048_564,
+            (2, "{\"fault\":\"script\",\"line\":1}\n"),
+        ),
+        ("the most lines", "", b'\n', 100_000, (0, "")),
+        (
+            "a line too many",
+            "",
+            b'\n',
+            100_001,
+            (2, "{\"fault\":\"script\",\"line\":100001}\n"),
+        ),
+    ] {
+        let script = followed(&rt, rt.alloc(), text, byte, count);
+        let (status, report) = run(&rt, rt.alloc(), &WORDS, script.as_slice(), WHOLE);
+        assert_eq!(rt; report.as_slice(), want.1.as_bytes(), "{case}");
+        assert_eq!(rt; status, want.0, "{case}");
     }
 }

@@ -1,8 +1,11 @@
-use Rattle.std.proofs.Common.{◌++◌, [], List, ℕ, length, refl, subst, append_assoc, ap, arith, length-append}
+use Rattle.std.proofs.Common.{◌∙◌, ◌++◌, [], List, ℕ, length, refl, sym, subst, append_assoc, ap, arith, length-append, rules, Err}
 use Rattle.std.proofs.lemmas.List.{append-nil}
-use Rattle.cluster_cli.specs.Script.{ended}
 use Rattle.cluster_cli.specs.Progress.{Reached}
 use Rattle.cluster_cli.proofs.ProgressLemmas.{piece_goes_on}
+use Rattle.std.proofs.lemmas.Result.{err_from_is_err_and}
+use Rattle.cluster_cli.specs.declared.session.Stop.TheVariants.{Faulty}
+use Rattle.cluster_cli.specs.Script.{ended, HasNoLineFeed}
+use Rattle.cluster_cli.proofs.FaultLemmas.{handed_on, held_past, restated, in_piece, at_piece_end}
 use Rattle.cluster_cli.proofs.script.take_piece.Goals as goal
 
 pub lines-init : goal.lines-init
@@ -27,3 +30,21 @@ lines-preserved g c =
       size = (let sizes = simp length-append at (ap length split) in omega (arith, so_far.size, c.in_ok-end_line.ensures.size, sizes));
       later = omega (arith, so_far.later, c.in_ok-end_line.ensures.later);
     }
+
+pub returns-in_err-end_line-clause-faulty : goal.returns-in_err-end_line-clause-faulty
+returns-in_err-end_line-clause-faulty g c = λ n is given before after reached.
+    let p = err_from_is_err_and c.from_residual.result c.from_residual.ensures.1 in
+    let told = handed_on c.end_line.result c.from_residual.result p.0 (Faulty n) (c.in_err-end_line.was ∙ ap Err (sym p.2)) p.1 is in
+    let so_far = c.lines.invariant.told in
+    let found = c.in-Some.ensures.found in
+    restated _ _ _ before n _ (in_piece given c.args.piece.now so_far.0 c.lines.rest.now c.in-Some.line.now c.in-Some.after.now after so_far.1 found.1)
+    (c.end_line.ensures.faulty n told found.0 (given ++ so_far.0) before (c.in-Some.after.now ++ after) (so_far.2 given before reached))
+
+pub returns-in_err-hold-clause-faulty : goal.returns-in_err-hold-clause-faulty
+returns-in_err-hold-clause-faulty g c = λ n is given before after reached.
+    let p = err_from_is_err_and c.from_residual-in_err-hold.result c.from_residual-in_err-hold.ensures.1 in
+    let told = handed_on c.hold.result c.from_residual-in_err-hold.result p.0 (Faulty n) (c.in_err-hold.was ∙ ap Err (sym p.2)) p.1 is in
+    let so_far = c.lines.invariant.told in
+    let no_feed : HasNoLineFeed c.lines.rest.now = search rules in
+    restated _ _ _ before n _ (at_piece_end given c.args.piece.now so_far.0 c.lines.rest.now after so_far.1)
+    (held_past _ (given ++ so_far.0) before c.lines.rest.now after c.lines.session _ n (c.hold.ensures.past n told) no_feed (so_far.2 given before reached))

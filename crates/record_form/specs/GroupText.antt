@@ -1,0 +1,51 @@
+-- The spelling of a group of mutations.
+use Rattle.std.specs.Prelude.{◌≡◌, ℕ, ◌+◌, ◌≤◌, List, ◌++◌, length}
+use Rattle.std.specs.List.{flat_map, AllByRecursion}
+use Rattle.byte_fields.specs.Numbers.{bytes8}
+use Rattle.byte_fields.specs.Counted.{counted8_text, counted16_text, counted32_text}
+use Rattle.cache_key.specs.declared.request.Mutation.{Mutation}
+use Rattle.cache_key.specs.declared.request.Mutation.TheVariants.{Put}
+use Rattle.cache_key.specs.Names.{IsName, IsKey, IsValue}
+
+-- the most mutations of a group so far
+abbrev pub most_mutations : ℕ
+most_mutations = 1
+
+-- the texts of a mutation are within their limits
+abbrev pub IsMutation : Mutation → Type 0
+IsMutation (Put cache key value) = IsName cache × IsKey key × IsValue value
+
+-- what may be a group
+pub record IsGroup (mutations : List Mutation) : Type 0 where
+  pub least : 1 ≤ length mutations
+  pub most : length mutations ≤ most_mutations
+  pub all : AllByRecursion IsMutation mutations
+
+-- the tag of a put
+abbrev pub put_tag : ℕ
+put_tag = 1
+
+-- a tag, and the texts behind their counts
+abbrev pub mutation_text : Mutation → List ℕ
+mutation_text (Put cache key value) = bytes8 put_tag ++ counted8_text cache ++ counted16_text key ++ counted32_text value
+
+-- the spelling of a group: the count of its mutations, and each of them
+abbrev pub group_text : List Mutation → List ℕ
+group_text mutations = bytes8 (length mutations) ++ flat_map mutation_text mutations
+
+-- the most bytes of a group: the count, and a put whose texts have the most
+abbrev pub most_group_bytes : ℕ
+most_group_bytes = 66633
+
+-- the text is that of the group
+pub record IsGroupText (text : List ℕ) (mutations : List Mutation) : Type 0 where
+  pub group : IsGroup mutations
+  pub spelled : text ≡ group_text mutations
+
+-- behind the open gate of a group's record: the length of the payload, the payload, and a closed gate
+abbrev pub tail_text : List Mutation → List ℕ
+tail_text mutations = counted32_text (group_text mutations) ++ bytes8 0
+
+-- what the record of this mutation alone takes: a gate, the length, the count, and the mutation
+abbrev pub growth_of : Mutation → ℕ
+growth_of mutation = 6 + length (mutation_text mutation)

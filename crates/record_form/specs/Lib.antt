@@ -1,0 +1,4 @@
+pub mod HeaderText
+pub mod GroupText
+pub mod HeaderFault
+pub mod GroupFault

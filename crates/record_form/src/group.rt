@@ -1,0 +1,43 @@
+ghost use Rattle.std.specs.Prelude.{◌≡◌, [], ◌∷◌, Ok};
+
+use cache_key::Mutation;
+use std::alloc::AllocError;
+use std::marker::Model;
+
+/// Mutations of one partition that are kept together or not at all.
+#[derive(Debug, Drop)]
+pub struct Group {
+    mutation: Mutation,
+}
+
+impl Model for Group {
+    ghost use Rattle.std.specs.Prelude.{List, [], ◌∷◌};
+    ghost use Rattle.cache_key.specs.declared.request.Mutation.{Mutation};
+
+    ghost Value = { List Mutation };
+
+    ghost view = { λ group. group.mutation ∷ [] };
+}
+
+impl Group {
+    /// The group of one mutation. So far it takes no memory.
+    pub fn one(mutation: Mutation) -> Result<Group, AllocError>
+        ensures { result ≡ Ok (mutation ∷ []) }
+    {
+        Ok(Group { mutation })
+    }
+
+    /// Its mutation.
+    pub fn mutation(&self) -> &Mutation
+        ensures { self.now ≡ result.now ∷ [] }
+    {
+        &self.mutation
+    }
+
+    /// Gives its mutation back. Takes no memory.
+    pub fn into_mutation(self) -> Mutation
+        ensures { self ≡ result ∷ [] }
+    {
+        self.mutation
+    }
+}

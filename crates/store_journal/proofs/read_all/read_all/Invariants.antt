@@ -1,0 +1,16 @@
+use Rattle.std.proofs.Common.{◌≡◌, ◌≤◌, ◌-◌, length, take}
+use Rattle.disk_trait.specs.View.{Tells}
+use Rattle.store_journal.specs.Loading.{OnlyReads}
+use Rattle.store_journal.proofs.read_all.read_all.Given as goal
+
+-- what has been read so far
+abbrev pub invariant-loop-place : goal.invariant-loop-place
+invariant-loop-place g l = record {
+  within : l.place ≤ l.length;
+  long : length l.bytes.items ≡ l.length;
+  so_far : Tells (g.D.Disk.view l.fn.disk) → take l.place l.bytes.items ≡ take l.place ((g.D.Disk.view l.fn.disk).seen l.file);
+  reads : OnlyReads (g.D.Disk.view l.fn.disk) (g.D.Disk.view l.disk);
+}
+
+abbrev pub decreases-loop-place : goal.decreases-loop-place
+decreases-loop-place g l = l.length - l.place

@@ -1,0 +1,6 @@
+pub mod Text
+pub mod AtRest
+pub mod Created
+pub mod Stands
+pub mod Fault
+pub mod Loading

@@ -5,9 +5,9 @@ use Rattle.cache_model.specs.Caches.{Pairs, Caches}
 use Rattle.script_lines.specs.declared.answer.Answer.{Answer}
 use Rattle.script_lines.specs.declared.answer.Answer.TheVariants.{Created, Dumped, Stepped, Refused}
 use Rattle.script_lines.specs.declared.answer.Outcome.{Outcome}
-use Rattle.script_lines.specs.declared.answer.Outcome.TheVariants.{Value}
+use Rattle.script_lines.specs.declared.answer.Outcome.TheVariants as events
 use Rattle.script_lines.specs.declared.answer.Refusal.{Refusal}
-use Rattle.script_lines.specs.declared.answer.Refusal.TheVariants.{Closed, Open, NotMember}
+use Rattle.script_lines.specs.declared.answer.Refusal.TheVariants as refusals
 use Rattle.script_lines.specs.declared.answer.PartitionDump.{PartitionDump}
 use Rattle.report_lines.specs.declared.fault.Fault.{Fault}
 use Rattle.report_lines.specs.declared.fault.Fault.TheVariants.{Words, Script, Read}
@@ -25,15 +25,17 @@ items_have_float-dumps_data : (dumps : List PartitionDump) → items_have_float 
 items_have_float-dumps_data [] = refl
 items_have_float-dumps_data (dump ∷ dumps) = rw (members_have_float-caches_data dump.caches) (items_have_float-dumps_data dumps)
 
+has_float-refusal_data : (refusal : Refusal) → has_float (refusal_data refusal) ≡ false
+has_float-refusal_data refusals.Closed = refl
+has_float-refusal_data refusals.Open = refl
+has_float-refusal_data (refusals.NotMember host) = refl
+has_float-refusal_data (refusals.Fault host) = refl
+
 items_have_float-outcomes_data : (outcomes : List Outcome) → items_have_float (outcomes_data outcomes) ≡ false
 items_have_float-outcomes_data [] = refl
-items_have_float-outcomes_data (Value None ∷ outcomes) = items_have_float-outcomes_data outcomes
-items_have_float-outcomes_data (Value (Some value) ∷ outcomes) = items_have_float-outcomes_data outcomes
-
-has_float-refusal_data : (refusal : Refusal) → has_float (refusal_data refusal) ≡ false
-has_float-refusal_data Closed = refl
-has_float-refusal_data Open = refl
-has_float-refusal_data (NotMember host) = refl
+items_have_float-outcomes_data (events.Value None ∷ outcomes) = items_have_float-outcomes_data outcomes
+items_have_float-outcomes_data (events.Value (Some value) ∷ outcomes) = items_have_float-outcomes_data outcomes
+items_have_float-outcomes_data (events.Refused refusal ∷ outcomes) = rw (has_float-refusal_data refusal) (items_have_float-outcomes_data outcomes)
 
 pub has_float-answer_data : (answer : Answer) → has_float (answer_data answer) ≡ false
 has_float-answer_data (Created host) = refl

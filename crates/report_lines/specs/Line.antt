@@ -7,9 +7,9 @@ use Rattle.store_ident.specs.Ident.{ident_text}
 use Rattle.script_lines.specs.declared.answer.Answer.{Answer}
 use Rattle.script_lines.specs.declared.answer.Answer.TheVariants.{Created, Dumped, Stepped, Refused}
 use Rattle.script_lines.specs.declared.answer.Outcome.{Outcome}
-use Rattle.script_lines.specs.declared.answer.Outcome.TheVariants.{Value}
+use Rattle.script_lines.specs.declared.answer.Outcome.TheVariants as events
 use Rattle.script_lines.specs.declared.answer.Refusal.{Refusal}
-use Rattle.script_lines.specs.declared.answer.Refusal.TheVariants.{Closed, Open, NotMember}
+use Rattle.script_lines.specs.declared.answer.Refusal.TheVariants as refusals
 use Rattle.script_lines.specs.declared.answer.PartitionDump.{PartitionDump}
 use Rattle.report_lines.specs.declared.fault.Fault.{Fault}
 use Rattle.report_lines.specs.declared.fault.Fault.TheVariants.{Words, Script, Read}
@@ -38,6 +38,18 @@ abbrev pub dumps_data : List PartitionDump → Items
 dumps_data [] = no_items
 dumps_data (dump ∷ dumps) = item (dump_data dump) (dumps_data dumps)
 
+-- ---- refusals
+
+-- a refusal that names a host
+abbrev pub host_refusal : List ℕ → List ℕ → Data
+host_refusal name host = object (member (codes "host") (string host) (member (codes "refused") (string name) no_members))
+
+abbrev pub refusal_data : Refusal → Data
+refusal_data refusals.Closed = single (codes "refused") (string (codes "closed"))
+refusal_data refusals.Open = single (codes "refused") (string (codes "open"))
+refusal_data (refusals.NotMember host) = host_refusal (codes "notMember") host
+refusal_data (refusals.Fault host) = host_refusal (codes "fault") host
+
 -- ---- outcomes of events
 
 abbrev pub optional_data : Option (List ℕ) → Data
@@ -45,18 +57,14 @@ optional_data None = null
 optional_data (Some value) = string value
 
 abbrev pub outcome_data : Outcome → Data
-outcome_data (Value value) = single (codes "value") (optional_data value)
+outcome_data (events.Value value) = single (codes "value") (optional_data value)
+outcome_data (events.Refused refusal) = refusal_data refusal
 
 abbrev pub outcomes_data : List Outcome → Items
 outcomes_data [] = no_items
 outcomes_data (outcome ∷ outcomes) = item (outcome_data outcome) (outcomes_data outcomes)
 
 -- ---- answers of commands
-
-abbrev pub refusal_data : Refusal → Data
-refusal_data Closed = single (codes "refused") (string (codes "closed"))
-refusal_data Open = single (codes "refused") (string (codes "open"))
-refusal_data (NotMember host) = object (member (codes "host") (string host) (member (codes "refused") (string (codes "notMember")) no_members))
 
 -- a cluster that was just made has epoch 1
 abbrev pub answer_data : Answer → Data

@@ -32,15 +32,37 @@ fn dump(alloc: Global, caches: Contents, host: HostName) -> Result<Answer, Alloc
     })
 }
 
-/// The answer of events that came to these values.
-fn steps(alloc: Global, values: &[Option<&str>]) -> Result<Answer, Fail> {
+/// What an event of a table came to.
+enum Item<'a> {
+    Value(&'a str),
+    NoValue,
+    Fault(&'a str),
+    Closed,
+}
+
+/// The outcome that an item of a table stands for.
+fn outcome(alloc: Global, item: &Item) -> Result<Outcome, Fail> {
+    match item {
+        Item::Value(text) => Ok(Outcome::Value {
+            value: Some(Value::of(alloc, text)?),
+        }),
+        Item::NoValue => Ok(Outcome::Value { value: None }),
+        Item::Fault(host) => Ok(Outcome::Refused {
+            refusal: Refusal::Fault {
+                host: HostName::of(alloc, host)?,
+            },
+        }),
+        Item::Closed => Ok(Outcome::Refused {
+            refusal: Refusal::Closed,
+        }),
+    }
+}
+
+/// The answer of events that came to these items.
+fn steps(alloc: Global, items: &[Item]) -> Result<Answer, Fail> {
     let mut outcomes = Vec::new(alloc);
-    for text in values {
-        let value = match text {
-            Some(text) => Some(Value::of(alloc, text)?),
-            None => None,
-        };
-        add(&mut outcomes, Outcome::Value { value })?;
+    for item in items {
+        add(&mut outcomes, outcome(alloc, item)?)?;
     }
     Ok(Answer::Stepped {
         outcomes: Outcomes::of(outcomes),
@@ -57,6 +79,7 @@ fn answers_with_no_list_have_their_lines(rt: HostRuntime) -> Result<(), Fail> {
     let alloc = rt.alloc();
     let host = HostName::of(alloc, "a")?;
     let other = HostName::of(alloc, "x")?;
+    let faulty = HostName::of(alloc, "a")?;
     for (answer, want) in [
         (
             Answer::Created { host },
@@ -81,6 +104,12 @@ fn answers_with_no_list_have_their_lines(rt: HostRuntime) -> Result<(), Fail> {
             "{\"host\":\"x\",\"refused\":\"notMember\"}\n",
         ),
         (
+            Answer::Refused {
+                refusal: Refusal::Fault { host: faulty },
+            },
+            "{\"host\":\"a\",\"refused\":\"fault\"}\n",
+        ),
+        (
             Answer::Dumped {
                 partitions: PartitionDumps::of(Vec::new(alloc)),
             },
@@ -95,18 +124,22 @@ fn answers_with_no_list_have_their_lines(rt: HostRuntime) -> Result<(), Fail> {
 
 #[test]
 fn steps_have_their_lines(rt: HostRuntime) -> Result<(), Fail> {
-    for (values, want) in [
+    for (items, want) in [
         ([].as_slice(), "{\"steps\":[]}\n"),
         (
-            [None, Some("1")].as_slice(),
+            [Item::NoValue, Item::Value("1")].as_slice(),
             "{\"steps\":[{\"value\":null},{\"value\":\"1\"}]}\n",
         ),
         (
-            [Some("a \"b\" c\\d\n\u{1}\u{7f}é€😀/")].as_slice(),
+            [Item::Value("a \"b\" c\\d\n\u{1}\u{7f}é€😀/")].as_slice(),
             "{\"steps\":[{\"value\":\"a \\\"b\\\" c\\\\d\\n\\u0001\u{7f}é€😀/\"}]}\n",
         ),
+        (
+            [Item::NoValue, Item::Fault("a"), Item::Closed].as_slice(),
+            "{\"steps\":[{\"value\":null},{\"host\":\"a\",\"refused\":\"fault\"},{\"refused\":\"closed\"}]}\n",
+        ),
     ] {
-        let line = print(rt.alloc(), &steps(rt.alloc(), values)?)?;
+        let line = print(rt.alloc(), &steps(rt.alloc(), items)?)?;
         assert!(rt; line.as_slice() == want.as_bytes(), "{want}");
     }
     Ok(())

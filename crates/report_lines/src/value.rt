@@ -1,10 +1,11 @@
 //! The JSON values of answers and faults.
 ghost use Rattle.std.specs.Prelude.{◌≡◌, IfOk};
 ghost use Rattle.serde_json.specs.View.{view, items_view};
-ghost use Rattle.report_lines.specs.Line.{dump_data, dumps_data, outcome_data, outcomes_data, refusal_data, answer_data, fault_data};
+ghost use Rattle.report_lines.specs.Line.{dump_data, dumps_data, outcome_data, outcomes_data, host_refusal, refusal_data, answer_data, fault_data};
 
 use crate::contents::caches_members;
 use crate::fault::Fault;
+use cache_key::HostName;
 use script_lines::{Answer, Outcome, Outcomes, PartitionDump, PartitionDumps, Refusal};
 use serde_json::{Value, json};
 use std::alloc::{AllocError, Global};
@@ -72,6 +73,7 @@ fn outcome_value(alloc: Global, outcome: &Outcome) -> Result<Value, AllocError>
     match outcome {
         Outcome::Value { value: Some(value) } => json!(in alloc; {"value": value.text()}),
         Outcome::Value { value: None } => json!(in alloc; {"value": null}),
+        Outcome::Refused { refusal } => refusal_value(alloc, refusal),
     }
 }
 
@@ -91,8 +93,14 @@ fn refusal_value(alloc: Global, refusal: &Refusal) -> Result<Value, AllocError>
     match refusal {
         Refusal::Closed => json!(in alloc; {"refused": "closed"}),
         Refusal::Open => json!(in alloc; {"refused": "open"}),
-        Refusal::NotMember { host } => {
-            json!(in alloc; {"host": host.text(), "refused": "notMember"})
-        }
+        Refusal::NotMember { host } => host_refusal_value(alloc, "notMember", host),
+        Refusal::Fault { host } => host_refusal_value(alloc, "fault", host),
     }
+}
+
+/// The value of a refusal that names a host.
+fn host_refusal_value(alloc: Global, name: &str, host: &HostName) -> Result<Value, AllocError>
+    ensures { IfOk result (λ value. view value ≡ host_refusal name.now host.now) }
+{
+    json!(in alloc; {"host": host.text(), "refused": name})
 }

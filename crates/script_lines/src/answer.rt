@@ -15,7 +15,7 @@ pub enum Answer {
     Dumped { partitions: PartitionDumps },
     /// What each event came to, in their order.
     Stepped { outcomes: Outcomes },
-    /// Nothing was done.
+    /// The command wasn't done.
     Refused { refusal: Refusal },
 }
 
@@ -24,9 +24,11 @@ pub enum Answer {
 pub enum Outcome {
     /// The value that stood at the key before the event, if there was one.
     Value { value: Option<Value> },
+    /// The event wasn't done.
+    Refused { refusal: Refusal },
 }
 
-/// Why nothing was done.
+/// Why a command or an event wasn't done.
 #[derive(Drop)]
 pub enum Refusal {
     /// No cluster is open.
@@ -35,6 +37,8 @@ pub enum Refusal {
     Open,
     /// The host isn't one of the site.
     NotMember { host: HostName },
+    /// A disk of this host failed.
+    Fault { host: HostName },
 }
 
 /// What one partition has.

@@ -1,16 +1,17 @@
 -- A run stops at the first faulty line.
-use Rattle.std.proofs.Common.{◌≡◌, ◌≢◌, ◌⊎◌, inl, inr, Result, Ok, Err, IsErrOf, ℕ, ◌+◌, ◌<◌, ◌≤◌, List, [], ◌∷◌, ◌++◌, length, take, drop, refl, sym, ◌∙◌, ap, subst, append_assoc, arith, length-append, Option, Some}
+use Rattle.std.proofs.Common.{◌≡◌, ◌≢◌, ◌⊎◌, inl, inr, Result, Ok, Err, IsErrOf, ℕ, ◌+◌, ◌<◌, ◌≤◌, List, [], ◌∷◌, ◌++◌, length, refl, sym, ◌∙◌, ap, subst, append_assoc, arith, length-append, Option, Some}
 use Rattle.std.specs.Prelude.{flat_map}
 use Rattle.std.specs.Option.{ForSome}
-use Rattle.std.proofs.lemmas.List.{append-nil, take-append-drop}
+use Rattle.std.proofs.lemmas.List.{append-nil}
 use mathlib.Core.Logic.{dite}
 use native.Mathlib.Decide.{dec_le, ℕ_discrete}
 use Rattle.script_lines.specs.Form.{HasNoForm}
 use Rattle.report_lines.specs.Line.{fault_line}
 use Rattle.report_lines.specs.declared.fault.Fault.TheVariants.{Script}
+use Rattle.cluster_cli.specs.State.{State, Span, up_to}
 use Rattle.cluster_cli.specs.Script.{line_feed, ended, HasNoLineFeed}
 use Rattle.cluster_cli.specs.Faults.{FollowsLine, IsFaulty, is_long, is_late, is_far, is_formless, StopsAt, IsReportedToFault}
-use Rattle.cluster_cli.specs.Progress.{IsPast, Reached, Underway}
+use Rattle.cluster_cli.specs.Progress.{IsPast, Reached}
 use Rattle.cluster_cli.specs.declared.session.Session.{Session}
 use Rattle.cluster_cli.specs.declared.session.Stop.{Stop}
 use Rattle.cluster_cli.specs.declared.session.Stop.TheVariants.{Faulty, ReadFault, WriteFault, NoMemory}
@@ -63,18 +64,18 @@ cut (byte ∷ bytes) = dite (ℕ_discrete byte line_feed)
 -- ---- a faulty line
 
 -- the line under way, with its tail, is faulty
-pub stops : (hosts : List (List ℕ)) (script given before tail rest : List ℕ) (session : Session) (written : Option (List ℕ)) (n : ℕ)
-    → Reached hosts given before session written → script ≡ given ++ (tail ++ rest) → HasNoLineFeed tail → FollowsLine rest
+pub stops : (hosts : List (List ℕ)) (first : State) (script given before tail rest : List ℕ) (session : Session) (faults : ℕ) (written : Option (List ℕ)) (n : ℕ)
+    → Reached hosts first given before session faults written → script ≡ given ++ (tail ++ rest) → HasNoLineFeed tail → FollowsLine rest
     → (session.partial.items ++ tail) ++ rest ≢ [] → n ≡ session.lines + 1
-    → IsFaulty session.lines session.passed (session.partial.items ++ tail) rest → StopsAt hosts script before n written
-stops hosts script given before tail rest session written n so_far is no_feed follows some number fault =
+    → IsFaulty session.lines session.passed (session.partial.items ++ tail) rest → StopsAt hosts (up_to first faults) script before n written
+stops hosts first script given before tail rest session faults written n so_far is no_feed follows some number fault =
     let few = session.few in
     let small = session.small in
     record {
       commands = so_far.commands;
       answers = so_far.answers;
       last = _;
-      first = record {
+      faulty = record {
         lines = so_far.lines;
         line = session.partial.items ++ tail;
         rest = rest;
@@ -91,6 +92,7 @@ stops hosts script given before tail rest session written n so_far is no_feed fo
         fault = rw (← so_far.counted, ← so_far.measured) fault;
       };
       run = so_far.run;
+      counted = omega arith;
       told = so_far.told;
     }
 
@@ -111,26 +113,26 @@ pub not_empty : (front tail rest : List ℕ) → 0 < length front + length tail 
 not_empty front tail rest some is = let sizes = simp length-append at (ap length is) in omega (arith, sizes, some)
 
 -- what has come of the line under way is past a limit
-pub held_past : (hosts : List (List ℕ)) (given before more after : List ℕ) (session : Session) (written : Option (List ℕ)) (n : ℕ)
-    → IsPast session more n → HasNoLineFeed more → Reached hosts given before session written → StopsAt hosts (given ++ (more ++ after)) before n written
-held_past hosts given before more after session written n past no_feed so_far =
+pub held_past : (hosts : List (List ℕ)) (first : State) (given before more after : List ℕ) (session : Session) (faults : ℕ) (written : Option (List ℕ)) (n : ℕ)
+    → IsPast session more n → HasNoLineFeed more → Reached hosts first given before session faults written → StopsAt hosts (up_to first faults) (given ++ (more ++ after)) before n written
+held_past hosts first given before more after session faults written n past no_feed so_far =
     let next = cut after in
     let size = session.partial.ok.0 in
     let held : length (session.partial.items ++ (more ++ next.front)) ≡ length session.partial.items + (length more + length next.front) = simp length-append (omega arith) in
     let some = past.some in
-    stops hosts (given ++ (more ++ after)) given before (more ++ next.front) next.rest session written n so_far
+    stops hosts first (given ++ (more ++ after)) given before (more ++ next.front) next.rest session faults written n so_far
     (ap (λ (t : List ℕ). given ++ (more ++ t)) next.whole ∙ ap (λ (t : List ℕ). given ++ t) (sym (append_assoc more next.front next.rest)))
     (all_append (λ (byte : ℕ). byte ≢ line_feed) more next.front no_feed next.here) next.follows
     (not_empty session.partial.items (more ++ next.front) next.rest (simp length-append (omega (arith, size, some)))) past.number
     (past_limit session.lines session.passed (session.partial.len + length more) _ next.rest past.past (omega (arith, size, held)))
 
 -- the line under way is faulty, and its line feed has come
-pub closes_faulty : (hosts : List (List ℕ)) (given before after : List ℕ) (session : Session) (was now : Option (List ℕ)) (n : ℕ)
+pub closes_faulty : (hosts : List (List ℕ)) (first : State) (given before after : List ℕ) (session : Session) (faults : ℕ) (was now : Option (List ℕ)) (n : ℕ)
     → n ≡ session.lines + 1 → now ≡ was → IsFaulty session.lines session.passed session.partial.items (line_feed ∷ after)
-    → Reached hosts given before session was → StopsAt hosts (given ++ line_feed ∷ after) before n now
-closes_faulty hosts given before after session was now n number same fault so_far =
-    subst (λ (w : Option (List ℕ)). StopsAt hosts (given ++ line_feed ∷ after) before n w) (sym same)
-    (stops hosts (given ++ line_feed ∷ after) given before [] (line_feed ∷ after) session was n so_far refl tt refl
+    → Reached hosts first given before session faults was → StopsAt hosts (up_to first faults) (given ++ line_feed ∷ after) before n now
+closes_faulty hosts first given before after session faults was now n number same fault so_far =
+    subst (λ (w : Option (List ℕ)). StopsAt hosts (up_to first faults) (given ++ line_feed ∷ after) before n w) (sym same)
+    (stops hosts first (given ++ line_feed ∷ after) given before [] (line_feed ∷ after) session faults was n so_far refl tt refl
     (not_empty session.partial.items [] (line_feed ∷ after) (omega arith)) number (rw (append-nil session.partial.items) fault))
 
 -- the line is past a limit of its script with its line feed
@@ -148,21 +150,34 @@ pub formless : (lines passed : ℕ) (line held rest : List ℕ) → line ≡ hel
 formless lines passed line held rest is some none = subst (λ (l : List ℕ). IsFaulty lines passed l rest) is (is_formless some none)
 
 -- the piece behind the last line feed is faulty
-pub finishes_faulty : (hosts : List (List ℕ)) (script before : List ℕ) (session : Session) (was now : Option (List ℕ)) (line : List ℕ) (n : ℕ)
+pub finishes_faulty : (hosts : List (List ℕ)) (first : State) (script before : List ℕ) (session : Session) (faults : ℕ) (was now : Option (List ℕ)) (line : List ℕ) (n : ℕ)
     → n ≡ session.lines + 1 → now ≡ was → line ≡ session.partial.items → line ≢ [] → HasNoForm line
-    → Reached hosts script before session was → StopsAt hosts script before n now
-finishes_faulty hosts script before session was now line n number same is some none so_far =
+    → Reached hosts first script before session faults was → StopsAt hosts (up_to first faults) script before n now
+finishes_faulty hosts first script before session faults was now line n number same is some none so_far =
     let held : session.partial.items ≢ [] = λ empty. some (is ∙ empty) in
-    subst (λ (w : Option (List ℕ)). StopsAt hosts script before n w) (sym same)
-    (stops hosts script script before [] [] session was n so_far (sym (append-nil script)) tt tt
+    subst (λ (w : Option (List ℕ)). StopsAt hosts (up_to first faults) script before n w) (sym same)
+    (stops hosts first script script before [] [] session faults was n so_far (sym (append-nil script)) tt tt
     (λ empty. held (sym (append-nil session.partial.items) ∙ sym (append-nil (session.partial.items ++ [])) ∙ empty)) number
     (rw (append-nil session.partial.items) (formless session.lines session.passed line session.partial.items [] is some none)))
+
+-- the count may have risen since
+pub later_stop : (hosts : List (List ℕ)) (first : State) (script before : List ℕ) (n faults count : ℕ) (written : Option (List ℕ)) → faults ≤ count
+    → StopsAt hosts (up_to first faults) script before n written → StopsAt hosts (up_to first count) script before n written
+later_stop hosts first script before n faults count written le stop = record {
+  commands = stop.commands;
+  answers = stop.answers;
+  last = stop.last;
+  faulty = stop.faulty;
+  run = stop.run;
+  counted = (let counted = stop.counted in omega (arith, le, counted));
+  told = stop.told;
+}
 
 -- ---- pieces
 
 -- the same script, written otherwise
-pub restated : (hosts : List (List ℕ)) (script same before : List ℕ) (n : ℕ) (written : Option (List ℕ)) → script ≡ same → StopsAt hosts script before n written → StopsAt hosts same before n written
-restated hosts script same before n written is stop = subst (λ (s : List ℕ). StopsAt hosts s before n written) is stop
+pub restated : (hosts : List (List ℕ)) (span : Span) (script same before : List ℕ) (n : ℕ) (written : Option (List ℕ)) → script ≡ same → StopsAt hosts span script before n written → StopsAt hosts span same before n written
+restated hosts span script same before n written is stop = subst (λ (s : List ℕ). StopsAt hosts span s before n written) is stop
 
 pub ended_line : (given rest after : List ℕ) → given ++ (rest ++ line_feed ∷ after) ≡ given ++ (ended rest ++ after)
 ended_line given rest after = ap (λ (t : List ℕ). given ++ t) (sym (append_assoc rest (line_feed ∷ []) after))
@@ -177,26 +192,16 @@ pub at_piece_end : (given piece front rest after : List ℕ) → piece ≡ front
 at_piece_end given piece front rest after whole =
     append_assoc given front (rest ++ after) ∙ ap (λ (t : List ℕ). given ++ t) (sym (append_assoc front rest after) ∙ ap (λ (t : List ℕ). t ++ after) (sym whole))
 
--- the piece that was read reaches a faulty line
-pub reads_faulty : (hosts : List (List ℕ)) (script before : List ℕ) (session : Session) (left was now : Option (List ℕ)) (count : ℕ) (piece : List ℕ) (n : ℕ)
-    → Underway hosts script before session left was → ForSome left (λ bytes. piece ≡ take count bytes)
-    → ((given before after : List ℕ) → Reached hosts given before session was → StopsAt hosts (given ++ (piece ++ after)) before n now)
-    → StopsAt hosts script before n now
-reads_faulty hosts script before session left was now count piece n so_far piece_is stop =
-    let after : List ℕ = drop count so_far.rest in
-    restated hosts (so_far.given ++ (piece ++ after)) script before n now
-    (sym (so_far.script_is ∙ ap (λ (t : List ℕ). so_far.given ++ t) (sym (take-append-drop count so_far.rest) ∙ ap (λ (t : List ℕ). t ++ after) (sym (piece_is so_far.rest so_far.left_is)))))
-    (stop so_far.given before after so_far.reached)
-
 -- the number of the faulty line is told
-pub tells_fault : (hosts : List (List ℕ)) (script before : List ℕ) (n : ℕ) (was now : Option (List ℕ))
-    → StopsAt hosts script before n was → ForSome was (λ bytes. now ≡ Some (bytes ++ fault_line (Script n))) → IsReportedToFault hosts script before now
-tells_fault hosts script before n was now stop told = record {
+pub tells_fault : (hosts : List (List ℕ)) (span : Span) (script before : List ℕ) (n : ℕ) (was now : Option (List ℕ))
+    → StopsAt hosts span script before n was → ForSome was (λ bytes. now ≡ Some (bytes ++ fault_line (Script n))) → IsReportedToFault hosts span script before now
+tells_fault hosts span script before n was now stop told = record {
   n = n;
   commands = stop.commands;
   answers = stop.answers;
   last = stop.last;
-  first = stop.first;
+  faulty = stop.faulty;
   run = stop.run;
+  counted = stop.counted;
   told = told _ stop.told;
 }

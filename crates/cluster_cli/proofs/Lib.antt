@@ -1,3 +1,6 @@
+mod AnsweredLemmas
+mod CutLemmas
+mod DiskLemmas
 mod FaultLemmas
 mod ProgressLemmas
 mod ReadLemmas

@@ -1,6 +1,6 @@
 -- A run goes on by a line.
-use Rattle.std.proofs.Common.{◌≡◌, ◌≢◌, ℕ, ◌+◌, ◌<◌, ◌≤◌, List, [], ◌∷◌, ◌++◌, length, take, drop, refl, sym, ◌∙◌, ap, subst, append_assoc, arith, length-append, Option, Some}
-use Rattle.std.specs.Prelude.{flat_map}
+use Rattle.std.proofs.Common.{◌≡◌, ◌≢◌, ℕ, ◌+◌, ◌<◌, ◌≤◌, List, [], ◌∷◌, ◌++◌, length, take, drop, sym, ◌∙◌, ap, subst, append_assoc, arith, length-append, Option, Some, false}
+use Rattle.std.specs.Prelude.{◌==◌, flat_map}
 use Rattle.std.specs.Option.{ForSome}
 use Rattle.std.specs.List.{AllByRecursion}
 use Rattle.std.proofs.lemmas.List.{append-nil, take-append-drop}
@@ -10,10 +10,10 @@ use Rattle.script_lines.specs.declared.answer.Answer.{Answer}
 use Rattle.script_lines.specs.Form.{IsLineOf}
 use Rattle.cluster_cli.specs.Script.{line_feed, ended, HasNoLineFeed, IsSplit, IsShort, AreCommands}
 use Rattle.report_lines.specs.Line.{answer_line}
-use Rattle.cluster_cli.specs.State.{State, closed, Run}
+use Rattle.cluster_cli.specs.State.{State, begun, Run}
 use Rattle.cluster_cli.specs.Kept.{state_of}
-use Rattle.cluster_cli.specs.Report.{report_of, IsReported}
-use Rattle.cluster_cli.specs.Progress.{LineStep, IsAnswered, Holds, Reached, Underway}
+use Rattle.cluster_cli.specs.Report.{report_of, IsReportOf, IsReported}
+use Rattle.cluster_cli.specs.Progress.{AnswerStep, LineStep, IsAnswered, Holds, Reached, Underway}
 use Rattle.cluster_cli.specs.declared.session.Session.{Session}
 use Rattle.cluster_cli.proofs.StateLemmas.{run_more}
 
@@ -37,30 +37,35 @@ commands_empty ((x ∷ xs) ∷ lines) [] so_far = absurd so_far
 commands_empty ((x ∷ xs) ∷ lines) (c ∷ cs) so_far = (so_far.0, commands_empty lines cs so_far.1)
 
 -- the commands and answers with those of one line more
-pub record Grown (hosts : List (List ℕ)) (lines : List (List ℕ)) (report : List ℕ) (new : State) : Type 0 where
+pub record Grown (hosts : List (List ℕ)) (first : State) (lines : List (List ℕ)) (report : List ℕ) (new : State) : Type 0 where
   pub commands : List Command
   pub answers : List Answer
   pub spelled : AreCommands lines commands
-  pub run : Run hosts closed commands answers new
+  pub run : Run hosts first commands answers new
   pub report_is : report_of answers ≡ report
 
-pub grown : (hosts lines : List (List ℕ)) (commands : List Command) (answers : List Answer) (old : State) (line text : List ℕ) (new : State)
-    → AreCommands lines commands → Run hosts closed commands answers old → LineStep hosts old line text new
-    → Grown hosts (lines ++ line ∷ []) (report_of answers ++ text) new
-grown hosts lines commands answers old [] text new spelled run step = record {
+pub grown : (hosts : List (List ℕ)) (first : State) (lines : List (List ℕ)) (commands : List Command) (answers : List Answer) (old : State) (line text : List ℕ) (new : State)
+    → AreCommands lines commands → Run hosts first commands answers old → LineStep hosts old line text new
+    → Grown hosts first (lines ++ line ∷ []) (report_of answers ++ text) new
+grown hosts first lines commands answers old [] text new spelled run step = record {
   commands = commands;
   answers = answers;
   spelled = commands_empty lines commands spelled;
-  run = subst (λ (s : State). Run hosts closed commands answers s) (sym step.1) run;
+  run = subst (λ (s : State). Run hosts first commands answers s) (sym step.1) run;
   report_is = rw step.0 (sym (append-nil (report_of answers)));
 }
-grown hosts lines commands answers old (byte ∷ bytes) text new spelled run step = record {
+grown hosts first lines commands answers old (byte ∷ bytes) text new spelled run step = record {
   commands = commands ++ step.command ∷ [];
   answers = answers ++ step.answer ∷ [];
   spelled = commands_more lines commands byte bytes step.command spelled step.line_is;
-  run = run_more hosts closed commands answers old step.command step.answer new run step.step;
+  run = run_more hosts first commands answers old step.command step.answer new run step.step;
   report_is = flat_map-append answer_line answers (step.answer ∷ []) ∙ ap (λ (t : List ℕ). report_of answers ++ t) (append-nil (answer_line step.answer) ∙ sym step.text_is);
 }
+
+-- a line that isn't empty is a command
+pub line_step : (hosts : List (List ℕ)) (old : State) (line text : List ℕ) (new : State) → (length line == 0) ≡ false → AnswerStep hosts old line text new → LineStep hosts old line text new
+line_step hosts old [] text new some step = cc
+line_step hosts old (byte ∷ bytes) text new some step = step
 
 -- the lines with one more, whose line feed has come
 pub whole_more : (lines : List (List ℕ)) (line : List ℕ) → flat_map ended (lines ++ line ∷ []) ≡ flat_map ended lines ++ ended line
@@ -78,16 +83,16 @@ pub length-whole_more : (lines : List (List ℕ)) (line : List ℕ) → length (
 length-whole_more lines line = rw (whole_more lines line) (simp length-append (omega arith))
 
 -- the line under way is ended and answered
-pub closes : (hosts : List (List ℕ)) (given before : List ℕ) (old new : Session) (was now : Option (List ℕ)) (line : List ℕ) (state : State)
-    → Reached hosts given before old was
+pub closes : (hosts : List (List ℕ)) (first : State) (given before : List ℕ) (old new : Session) (faults after : ℕ) (was now : Option (List ℕ)) (line : List ℕ) (state : State)
+    → Reached hosts first given before old faults was
     → line ≡ old.partial.items → length line ≤ 1048576
-    → ForSome was (λ written. IsAnswered hosts (state_of old.cluster) line written now state)
-    → state_of new.cluster ≡ state → new.partial.items ≡ [] → new.lines ≡ old.lines + 1 → new.passed ≡ old.passed + (length line + 1)
-    → Reached hosts (given ++ line_feed ∷ []) before new now
-closes hosts given before old new was now line state so_far line_is short answered state_is empty lines passed =
-    let here : IsAnswered hosts (state_of old.cluster) line (before ++ report_of so_far.answers) now state = answered (before ++ report_of so_far.answers) so_far.told in
+    → ForSome was (λ written. IsAnswered hosts (state_of old.cluster faults) line written now state)
+    → state_of new.cluster after ≡ state → new.partial.items ≡ [] → new.lines ≡ old.lines + 1 → new.passed ≡ old.passed + (length line + 1)
+    → Reached hosts first (given ++ line_feed ∷ []) before new after now
+closes hosts first given before old new faults after was now line state so_far line_is short answered state_is empty lines passed =
+    let here : IsAnswered hosts (state_of old.cluster faults) line (before ++ report_of so_far.answers) now state = answered (before ++ report_of so_far.answers) so_far.told in
     let split : IsSplit given so_far.lines line = subst (λ (l : List ℕ). IsSplit given so_far.lines l) (sym line_is) so_far.split in
-    let more = grown hosts so_far.lines so_far.commands so_far.answers (state_of old.cluster) line here.text state so_far.spelled so_far.run here.step in
+    let more = grown hosts first so_far.lines so_far.commands so_far.answers (state_of old.cluster faults) line here.text state so_far.spelled so_far.run here.step in
     record {
       lines = so_far.lines ++ line ∷ [];
       commands = more.commands;
@@ -102,9 +107,9 @@ closes hosts given before old new was now line state so_far line_is short answer
     }
 
 -- more has come of the line under way
-pub holds : (hosts : List (List ℕ)) (given before : List ℕ) (old new : Session) (more : List ℕ) (written : Option (List ℕ))
-    → Holds old new more → HasNoLineFeed more → Reached hosts given before old written → Reached hosts (given ++ more) before new written
-holds hosts given before old new more written held no_feed so_far = record {
+pub holds : (hosts : List (List ℕ)) (first : State) (given before : List ℕ) (old new : Session) (more : List ℕ) (faults : ℕ) (written : Option (List ℕ))
+    → Holds old new more → HasNoLineFeed more → Reached hosts first given before old faults written → Reached hosts first (given ++ more) before new faults written
+holds hosts first given before old new more faults written held no_feed so_far = record {
   lines = so_far.lines;
   commands = so_far.commands;
   answers = so_far.answers;
@@ -121,67 +126,70 @@ holds hosts given before old new more written held no_feed so_far = record {
   told = so_far.told;
 }
 
--- the piece behind the last line feed is answered too, and the script is at its end
-pub finished : (hosts : List (List ℕ)) (script before : List ℕ) (session : Session) (was now : Option (List ℕ)) (line : List ℕ) (state : State)
-    → Reached hosts script before session was
+-- what is under way is a line, and is answered: what has come is a script of its own
+pub report_with : (hosts : List (List ℕ)) (first : State) (script before : List ℕ) (session : Session) (faults : ℕ) (was : Option (List ℕ)) (line text : List ℕ) (state : State)
+    → (so_far : Reached hosts first script before session faults was)
     → line ≡ session.partial.items → length line ≤ 1048576
     → (0 < length line → session.lines < 100000) → session.lines ≤ 100000 → session.passed + length line ≤ 67108864
-    → ForSome was (λ written. IsAnswered hosts (state_of session.cluster) line written now state)
-    → IsReported hosts script before now
-finished hosts script before session was now [] state so_far line_is short below few small answered =
-    let here : IsAnswered hosts (state_of session.cluster) [] (before ++ report_of so_far.answers) now state = answered (before ++ report_of so_far.answers) so_far.told in
+    → LineStep hosts (state_of session.cluster faults) line text state
+    → IsReportOf hosts first script (report_of so_far.answers ++ text) state
+report_with hosts first script before session faults was [] text state so_far line_is short below few small step =
     let split : IsSplit script so_far.lines [] = subst (λ (l : List ℕ). IsSplit script so_far.lines l) (sym line_is) so_far.split in
     record {
-      report = report_of so_far.answers;
-      is = record {
-        commands = so_far.commands;
-        answers = so_far.answers;
-        last = state_of session.cluster;
-        script_is = record {
-          lines = so_far.lines;
-          piece = [];
-          split = split;
-          spelled = rw (append-nil so_far.lines) so_far.spelled;
-          short = rw (append-nil so_far.lines) so_far.short;
-          few = rw (append-nil so_far.lines, ← so_far.counted) few;
-          small = rw split.whole (simp length-append (omega (arith, so_far.measured, small)));
-        };
-        run = so_far.run;
-        lines = refl;
+      commands = so_far.commands;
+      answers = so_far.answers;
+      script_is = record {
+        lines = so_far.lines;
+        piece = [];
+        split = split;
+        spelled = rw (append-nil so_far.lines) so_far.spelled;
+        short = rw (append-nil so_far.lines) so_far.short;
+        few = rw (append-nil so_far.lines, ← so_far.counted) few;
+        small = rw split.whole (simp length-append (omega (arith, so_far.measured, small)));
       };
-      told = here.told ∙ ap Some (ap (λ (t : List ℕ). (before ++ report_of so_far.answers) ++ t) here.step.0 ∙ append-nil (before ++ report_of so_far.answers));
+      run = subst (λ (s : State). Run hosts first so_far.commands so_far.answers s) (sym step.1) so_far.run;
+      lines = ap (λ (t : List ℕ). report_of so_far.answers ++ t) step.0 ∙ append-nil (report_of so_far.answers);
     }
-finished hosts script before session was now (byte ∷ bytes) state so_far line_is short below few small answered =
+report_with hosts first script before session faults was (byte ∷ bytes) text state so_far line_is short below few small step =
     let line : List ℕ = byte ∷ bytes in
-    let here : IsAnswered hosts (state_of session.cluster) (byte ∷ bytes) (before ++ report_of so_far.answers) now state = answered (before ++ report_of so_far.answers) so_far.told in
     let split : IsSplit script so_far.lines (byte ∷ bytes) = subst (λ (l : List ℕ). IsSplit script so_far.lines l) (sym line_is) so_far.split in
-    let more = grown hosts so_far.lines so_far.commands so_far.answers (state_of session.cluster) (byte ∷ bytes) here.text state so_far.spelled so_far.run here.step in
+    let more = grown hosts first so_far.lines so_far.commands so_far.answers (state_of session.cluster faults) (byte ∷ bytes) text state so_far.spelled so_far.run step in
     record {
-      report = report_of more.answers;
-      is = record {
-        commands = more.commands;
-        answers = more.answers;
-        last = state;
-        script_is = record {
-          lines = so_far.lines;
-          piece = byte ∷ bytes;
-          split = split;
-          spelled = more.spelled;
-          short = all_append IsShort so_far.lines ((byte ∷ bytes) ∷ []) so_far.short (short, tt);
-          few = simp length-append (let fewer = below (omega arith) in omega (arith, so_far.counted, fewer));
-          small = rw split.whole (simp length-append (omega (arith, so_far.measured, small)));
-        };
-        run = more.run;
-        lines = refl;
+      commands = more.commands;
+      answers = more.answers;
+      script_is = record {
+        lines = so_far.lines;
+        piece = byte ∷ bytes;
+        split = split;
+        spelled = more.spelled;
+        short = all_append IsShort so_far.lines ((byte ∷ bytes) ∷ []) so_far.short (short, tt);
+        few = simp length-append (let fewer = below (omega arith) in omega (arith, so_far.counted, fewer));
+        small = rw split.whole (simp length-append (omega (arith, so_far.measured, small)));
       };
-      told = here.told ∙ ap Some (append_assoc before (report_of so_far.answers) here.text ∙ ap (λ (t : List ℕ). before ++ t) (sym more.report_is));
+      run = more.run;
+      lines = sym more.report_is;
+    }
+
+-- the piece behind the last line feed is answered too, and the script is at its end
+pub finished : (hosts : List (List ℕ)) (first : State) (script before : List ℕ) (session : Session) (faults : ℕ) (was now : Option (List ℕ)) (line : List ℕ) (state : State)
+    → Reached hosts first script before session faults was
+    → line ≡ session.partial.items → length line ≤ 1048576
+    → (0 < length line → session.lines < 100000) → session.lines ≤ 100000 → session.passed + length line ≤ 67108864
+    → ForSome was (λ written. IsAnswered hosts (state_of session.cluster faults) line written now state)
+    → IsReported hosts first script before now state
+finished hosts first script before session faults was now line state so_far line_is short below few small answered =
+    let here : IsAnswered hosts (state_of session.cluster faults) line (before ++ report_of so_far.answers) now state = answered (before ++ report_of so_far.answers) so_far.told in
+    record {
+      report = report_of so_far.answers ++ here.text;
+      is = report_with hosts first script before session faults was line here.text state so_far line_is short below few small here.step;
+      told = here.told ∙ ap Some (append_assoc before (report_of so_far.answers) here.text);
     }
 
 -- at the start nothing is answered
-pub begun : (hosts : List (List ℕ)) (before : List ℕ) (session : Session) (written : Option (List ℕ))
-    → session.partial.items ≡ [] → session.lines ≡ 0 → session.passed ≡ 0 → state_of session.cluster ≡ closed → written ≡ Some before
-    → Reached hosts [] before session written
-begun hosts before session written empty lines passed state told = record {
+pub starts : (hosts : List (List ℕ)) (faults : ℕ) (before : List ℕ) (session : Session) (written : Option (List ℕ))
+    → session.partial.items ≡ [] → session.lines ≡ 0 → session.passed ≡ 0 → state_of session.cluster faults ≡ begun faults → written ≡ Some before
+    → Reached hosts (begun faults) [] before session faults written
+starts hosts faults before session written empty lines passed state told = record {
   lines = [];
   commands = [];
   answers = [];
@@ -200,32 +208,38 @@ piece_goes_on piece front rest line after whole split =
     whole ∙ ap (λ (t : List ℕ). front ++ t) (split ∙ sym (append_assoc line (line_feed ∷ []) after)) ∙ sym (append_assoc front (ended line) after)
 
 -- a piece was read and answered
-pub takes : (hosts : List (List ℕ)) (script before : List ℕ) (old new : Session) (left after was now : Option (List ℕ)) (count : ℕ) (piece : List ℕ)
-    → Underway hosts script before old left was
+pub takes : (hosts : List (List ℕ)) (first : State) (script before : List ℕ) (old new : Session) (faults faults_after : ℕ) (left after was now : Option (List ℕ)) (count : ℕ) (piece : List ℕ)
+    → Underway hosts first script before old faults left was
     → ForSome left (λ bytes. piece ≡ take count bytes) → ForSome left (λ bytes. after ≡ Some (drop count bytes))
-    → ((given before : List ℕ) → Reached hosts given before old was → Reached hosts (given ++ piece) before new now)
-    → Underway hosts script before new after now
-takes hosts script before old new left after was now count piece so_far piece_is after_is goes = record {
+    → ((first : State) (given before : List ℕ) → Reached hosts first given before old faults was → Reached hosts first (given ++ piece) before new faults_after now)
+    → Underway hosts first script before new faults_after after now
+takes hosts first script before old new faults faults_after left after was now count piece so_far piece_is after_is goes = record {
   given = so_far.given ++ piece;
   rest = drop count so_far.rest;
   left_is = after_is so_far.rest so_far.left_is;
   script_is = so_far.script_is ∙ ap (λ (t : List ℕ). so_far.given ++ t) (sym (take-append-drop count so_far.rest)) ∙ ap (λ (t : List ℕ). so_far.given ++ (t ++ drop count so_far.rest)) (sym (piece_is so_far.rest so_far.left_is)) ∙ sym (append_assoc so_far.given piece (drop count so_far.rest));
-  reached = goes so_far.given before so_far.reached;
+  reached = goes first so_far.given before so_far.reached;
 }
 
 -- the source is at its end
-pub ends : (hosts : List (List ℕ)) (script before : List ℕ) (session : Session) (left was : Option (List ℕ))
-    → Underway hosts script before session left was → ForSome left (λ bytes. bytes ≡ []) → Reached hosts script before session was
-ends hosts script before session left was so_far none =
-    subst (λ (s : List ℕ). Reached hosts s before session was) (sym (so_far.script_is ∙ ap (λ (t : List ℕ). so_far.given ++ t) (none so_far.rest so_far.left_is) ∙ append-nil so_far.given)) so_far.reached
+pub ends : (hosts : List (List ℕ)) (first : State) (script before : List ℕ) (session : Session) (faults : ℕ) (left was : Option (List ℕ))
+    → Underway hosts first script before session faults left was → ForSome left (λ bytes. bytes ≡ []) → Reached hosts first script before session faults was
+ends hosts first script before session faults left was so_far none =
+    subst (λ (s : List ℕ). Reached hosts first s before session faults was) (sym (so_far.script_is ∙ ap (λ (t : List ℕ). so_far.given ++ t) (none so_far.rest so_far.left_is) ∙ append-nil so_far.given)) so_far.reached
 
 -- a read of nothing leaves what was left
-pub nothing_read : (hosts : List (List ℕ)) (script before : List ℕ) (session : Session) (left after was : Option (List ℕ))
-    → Underway hosts script before session left was → ForSome left (λ bytes. after ≡ Some bytes) → Underway hosts script before session after was
-nothing_read hosts script before session left after was so_far same = record {
+pub nothing_read : (hosts : List (List ℕ)) (first : State) (script before : List ℕ) (session : Session) (faults : ℕ) (left after was : Option (List ℕ))
+    → Underway hosts first script before session faults left was → ForSome left (λ bytes. after ≡ Some bytes) → Underway hosts first script before session faults after was
+nothing_read hosts first script before session faults left after was so_far same = record {
   given = so_far.given;
   rest = so_far.rest;
   left_is = same so_far.rest so_far.left_is;
   script_is = so_far.script_is;
   reached = so_far.reached;
 }
+
+-- a read of no byte leaves what was left
+pub read_none : (hosts : List (List ℕ)) (first : State) (script before : List ℕ) (session : Session) (faults : ℕ) (left after was : Option (List ℕ)) (count : ℕ)
+    → count ≡ 0 → Underway hosts first script before session faults left was → ForSome left (λ bytes. after ≡ Some (drop count bytes)) → Underway hosts first script before session faults after was
+read_none hosts first script before session faults left after was count none so_far rest =
+    nothing_read hosts first script before session faults left after was so_far (λ bytes told. rest bytes told ∙ ap (λ (n : ℕ). Some (drop n bytes)) none)

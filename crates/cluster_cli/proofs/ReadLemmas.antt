@@ -3,15 +3,16 @@ use Rattle.std.proofs.Common.{◌≡◌, ℕ, List, ◌++◌, length-append, ref
 use Rattle.std.specs.Option.{ForSome}
 use Rattle.report_lines.specs.Line.{fault_line}
 use Rattle.report_lines.specs.declared.fault.Fault.TheVariants.{Read}
+use Rattle.cluster_cli.specs.State.{State, Span, up_to}
 use Rattle.cluster_cli.specs.Report.{report_of}
 use Rattle.cluster_cli.specs.Reads.{IsReportedSoFar, IsReportedToRead}
 use Rattle.cluster_cli.specs.Progress.{Underway}
 use Rattle.cluster_cli.specs.declared.session.Session.{Session}
 
 -- what is answered, without the session
-pub reported_so_far : (hosts : List (List ℕ)) (script before : List ℕ) (session : Session) (left written : Option (List ℕ))
-    → Underway hosts script before session left written → IsReportedSoFar hosts script before left written
-reported_so_far hosts script before session left written so_far =
+pub reported_so_far : (hosts : List (List ℕ)) (first : State) (script before : List ℕ) (session : Session) (faults : ℕ) (left written : Option (List ℕ))
+    → Underway hosts first script before session faults left written → IsReportedSoFar hosts (up_to first faults) script before left written
+reported_so_far hosts first script before session faults left written so_far =
     let few = session.few in
     let small = session.small in
     let size = session.partial.ok.0 in
@@ -34,12 +35,13 @@ reported_so_far hosts script before session left written so_far =
         small = rw reached.split.whole (simp length-append (omega (arith, size, small, reached.measured)));
         spelled = reached.spelled;
         run = reached.run;
+        counted = omega arith;
         report_is = refl;
       };
       told = reached.told;
     }
 
 -- the fault is told behind the report
-pub tells_read : (hosts : List (List ℕ)) (script before : List ℕ) (left was now : Option (List ℕ))
-    → IsReportedSoFar hosts script before left was → ForSome was (λ bytes. now ≡ Some (bytes ++ fault_line Read)) → IsReportedToRead hosts script before left now
-tells_read hosts script before left was now so_far told = record { report = so_far.report; is = so_far.is; told = told _ so_far.told }
+pub tells_read : (hosts : List (List ℕ)) (span : Span) (script before : List ℕ) (left was now : Option (List ℕ))
+    → IsReportedSoFar hosts span script before left was → ForSome was (λ bytes. now ≡ Some (bytes ++ fault_line Read)) → IsReportedToRead hosts span script before left now
+tells_read hosts span script before left was now so_far told = record { report = so_far.report; is = so_far.is; told = told _ so_far.told }

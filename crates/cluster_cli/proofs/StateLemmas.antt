@@ -1,15 +1,14 @@
 -- Runs go on by one step at their end.
 use Rattle.std.proofs.Common.{List, [], ◌∷◌, ◌++◌, ℕ, refl, subst}
-use Rattle.cache_model.specs.Change.{Change}
 use Rattle.script_lines.specs.declared.command.Command.{Command}
 use Rattle.script_lines.specs.declared.command.Event.{Event}
 use Rattle.script_lines.specs.declared.answer.Answer.{Answer}
 use Rattle.script_lines.specs.declared.answer.Outcome.{Outcome}
 use Rattle.cluster_cli.specs.State.{State, EventStep, EventRun, CommandStep, Run}
 
-pub event_run_more : (old : List Change) (events : List Event) (outcomes : List Outcome) (mid : List Change) (event : Event) (outcome : Outcome) (new : List Change)
+pub event_run_more : (old : State) (events : List Event) (outcomes : List Outcome) (mid : State) (event : Event) (outcome : Outcome) (new : State)
     → EventRun old events outcomes mid → EventStep mid event outcome new → EventRun old (events ++ event ∷ []) (outcomes ++ outcome ∷ []) new
-event_run_more old [] [] mid event outcome new run step = (new, subst (λ (m : List Change). EventStep m event outcome new) run step, refl)
+event_run_more old [] [] mid event outcome new run step = (new, subst (λ (m : State). EventStep m event outcome new) run step, refl)
 event_run_more old (e ∷ es) (o ∷ os) mid event outcome new run step = (run.0, run.1, event_run_more run.0 es os mid event outcome new run.2 step)
 event_run_more old [] (o ∷ os) mid event outcome new run step = absurd run
 event_run_more old (e ∷ es) [] mid event outcome new run step = absurd run

@@ -11,3 +11,35 @@ word_fault ScriptFault is = cc
 word_fault ReadFault is = cc
 word_fault WriteFault is = cc
 word_fault NoMemory is = cc
+
+pub script_fault : (status : Status) → code_of status ≡ 2 → status ≡ ScriptFault
+script_fault Done is = cc
+script_fault WordFault is = cc
+script_fault ScriptFault is = refl
+script_fault ReadFault is = cc
+script_fault WriteFault is = cc
+script_fault NoMemory is = cc
+
+pub read_fault : (status : Status) → code_of status ≡ 3 → status ≡ ReadFault
+read_fault Done is = cc
+read_fault WordFault is = cc
+read_fault ScriptFault is = cc
+read_fault ReadFault is = refl
+read_fault WriteFault is = cc
+read_fault NoMemory is = cc
+
+pub write_fault : (status : Status) → code_of status ≡ 4 → status ≡ WriteFault
+write_fault Done is = cc
+write_fault WordFault is = cc
+write_fault ScriptFault is = cc
+write_fault ReadFault is = cc
+write_fault WriteFault is = refl
+write_fault NoMemory is = cc
+
+pub no_memory : (status : Status) → code_of status ≡ 5 → status ≡ NoMemory
+no_memory Done is = cc
+no_memory WordFault is = cc
+no_memory ScriptFault is = cc
+no_memory ReadFault is = cc
+no_memory WriteFault is = cc
+no_memory NoMemory is = refl

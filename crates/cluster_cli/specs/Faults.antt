@@ -7,7 +7,7 @@ use Rattle.script_lines.specs.Form.{HasNoForm}
 use Rattle.report_lines.specs.Line.{fault_line}
 use Rattle.report_lines.specs.declared.fault.Fault.TheVariants.{Script}
 use Rattle.cluster_cli.specs.Script.{line_feed, ended, HasNoLineFeed, most_line_bytes, most_lines, most_script_bytes, IsShort, AreCommands}
-use Rattle.cluster_cli.specs.State.{State, closed, Run}
+use Rattle.cluster_cli.specs.State.{State, Span, Run}
 use Rattle.cluster_cli.specs.Report.{report_of}
 
 -- what follows a whole line: nothing, or its line feed and the rest of the script
@@ -46,20 +46,22 @@ pub record HasFirstFault (script : List ℕ) (n : ℕ) (commands : List Command)
   pub fault : IsFaulty (length lines) (length (flat_map ended lines)) line rest
 
 -- line n is the first that is faulty, and the lines before it are answered, behind what was written before
-pub record StopsAt (hosts : List (List ℕ)) (script before : List ℕ) (n : ℕ) (written : Option (List ℕ)) : Type 0 where
+pub record StopsAt (hosts : List (List ℕ)) (span : Span) (script before : List ℕ) (n : ℕ) (written : Option (List ℕ)) : Type 0 where
   pub commands : List Command
   pub answers : List Answer
   pub last : State
-  pub first : HasFirstFault script n commands
-  pub run : Run hosts closed commands answers last
+  pub faulty : HasFirstFault script n commands
+  pub run : Run hosts span.first commands answers last
+  pub counted : last.faults ≤ span.count
   pub told : written ≡ Some (before ++ report_of answers)
 
 -- the report of the lines before the first that is faulty, and the line that tells its number
-pub record IsReportedToFault (hosts : List (List ℕ)) (script before : List ℕ) (written : Option (List ℕ)) : Type 0 where
+pub record IsReportedToFault (hosts : List (List ℕ)) (span : Span) (script before : List ℕ) (written : Option (List ℕ)) : Type 0 where
   pub n : ℕ
   pub commands : List Command
   pub answers : List Answer
   pub last : State
-  pub first : HasFirstFault script n commands
-  pub run : Run hosts closed commands answers last
+  pub faulty : HasFirstFault script n commands
+  pub run : Run hosts span.first commands answers last
+  pub counted : last.faults ≤ span.count
   pub told : written ≡ Some (before ++ report_of answers ++ fault_line (Script n))

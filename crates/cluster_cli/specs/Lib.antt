@@ -1,4 +1,6 @@
+pub mod Answered
 pub mod Codes
+pub mod Cuts
 pub mod Ends
 pub mod Faults
 pub mod Kept

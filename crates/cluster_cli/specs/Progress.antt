@@ -6,7 +6,7 @@ use Rattle.script_lines.specs.declared.answer.Answer.{Answer}
 use Rattle.script_lines.specs.Form.{IsLineOf}
 use Rattle.cluster_cli.specs.Script.{ended, IsSplit, IsShort, AreCommands}
 use Rattle.report_lines.specs.Line.{answer_line}
-use Rattle.cluster_cli.specs.State.{State, closed, CommandStep, Run}
+use Rattle.cluster_cli.specs.State.{State, CommandStep, Run}
 use Rattle.cluster_cli.specs.Kept.{state_of}
 use Rattle.cluster_cli.specs.Report.{report_of}
 use Rattle.cluster_cli.specs.declared.session.Session.{Session}
@@ -44,14 +44,14 @@ pub record IsPast (session : Session) (more : List ℕ) (n : ℕ) : Type 0 where
   pub past : vec_len session.partial + length more ≤ 1048576 → session.lines < 100000 → session.passed + (vec_len session.partial + length more) ≤ 67108864 → ⊥
 
 -- of the bytes that the source gave each ended line is answered, behind what was written before the run
-pub record Reached (hosts : List (List ℕ)) (given before : List ℕ) (session : Session) (written : Option (List ℕ)) : Type 0 where
+pub record Reached (hosts : List (List ℕ)) (first : State) (given before : List ℕ) (session : Session) (faults : ℕ) (written : Option (List ℕ)) : Type 0 where
   pub lines : List (List ℕ)
   pub commands : List Command
   pub answers : List Answer
   pub split : IsSplit given lines session.partial.items
   pub short : AllByRecursion IsShort lines
   pub spelled : AreCommands lines commands
-  pub run : Run hosts closed commands answers (state_of session.cluster)
+  pub run : Run hosts first commands answers (state_of session.cluster faults)
   pub counted : session.lines ≡ length lines
   pub measured : session.passed ≡ length (flat_map ended lines)
   pub told : written ≡ Some (before ++ report_of answers)
@@ -61,9 +61,9 @@ abbrev pub taken_bytes : Session → ℕ
 taken_bytes session = session.passed + vec_len session.partial
 
 -- the same, with what the source has left of the script
-pub record Underway (hosts : List (List ℕ)) (script before : List ℕ) (session : Session) (left written : Option (List ℕ)) : Type 0 where
+pub record Underway (hosts : List (List ℕ)) (first : State) (script before : List ℕ) (session : Session) (faults : ℕ) (left written : Option (List ℕ)) : Type 0 where
   pub given : List ℕ
   pub rest : List ℕ
   pub left_is : left ≡ Some rest
   pub script_is : script ≡ given ++ rest
-  pub reached : Reached hosts given before session written
+  pub reached : Reached hosts first given before session faults written

@@ -4,23 +4,23 @@ use Rattle.script_lines.specs.declared.command.Command.{Command}
 use Rattle.script_lines.specs.declared.answer.Answer.{Answer}
 use Rattle.cluster_cli.specs.Script.{IsScriptOf}
 use Rattle.report_lines.specs.Line.{answer_line}
-use Rattle.cluster_cli.specs.State.{State, closed, Run}
+use Rattle.cluster_cli.specs.State.{State, Run}
 
 -- one line for each answer
 abbrev pub report_of : List Answer → List ℕ
 report_of answers = flat_map answer_line answers
 
--- on a site with these hosts the bytes are the report of all of the script's commands, and no line of the script is faulty
-pub record IsReportOf (hosts : List (List ℕ)) (script bytes : List ℕ) : Type 0 where
+-- On a site with these hosts the bytes are the report of all of the script's commands, carried out from the first
+-- state to the last, and no line of the script is faulty.
+pub record IsReportOf (hosts : List (List ℕ)) (first : State) (script bytes : List ℕ) (last : State) : Type 0 where
   pub commands : List Command
   pub answers : List Answer
-  pub last : State
   pub script_is : IsScriptOf script commands
-  pub run : Run hosts closed commands answers last
+  pub run : Run hosts first commands answers last
   pub lines : bytes ≡ report_of answers
 
 -- the report stands behind what was written before
-pub record IsReported (hosts : List (List ℕ)) (script before : List ℕ) (written : Option (List ℕ)) : Type 0 where
+pub record IsReported (hosts : List (List ℕ)) (first : State) (script before : List ℕ) (written : Option (List ℕ)) (last : State) : Type 0 where
   pub report : List ℕ
-  pub is : IsReportOf hosts script report
+  pub is : IsReportOf hosts first script report last
   pub told : written ≡ Some (before ++ report)

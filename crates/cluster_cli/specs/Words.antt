@@ -34,6 +34,10 @@ pub record IsPlan (words : List (List ℕ)) (hosts : List (List ℕ)) (partition
   pub hosts_are : hosts ≡ host ∷ []
   pub partitions_are : partitions ≡ 1
 
+-- the words have a plan
+abbrev pub IsPlanned : List (List ℕ) → Type 0
+IsPlanned words = (hosts : List (List ℕ)) × (partitions : ℕ) × IsPlan words hosts partitions
+
 -- the words have no plan
 abbrev pub HasNoPlan : List (List ℕ) → Type 0
 HasNoPlan words = (hosts : List (List ℕ)) (partitions : ℕ) → IsPlan words hosts partitions → ⊥

@@ -1,40 +1,35 @@
 //! What each command does to a cluster, and what it is answered.
-ghost use Rattle.std.specs.Prelude.{◌≡◌, ℕ, List, IfOk};
-ghost use Rattle.cache_model.specs.Change.{changes_of};
-ghost use Rattle.cache_model.specs.Contents.{value_after};
-ghost use Rattle.cluster_cli.specs.State.{CommandStep, EventStep, EventRun};
-ghost use Rattle.cluster_cli.specs.Kept.{state_of};
+ghost use Rattle.std.specs.Prelude.{◌≡◌, ℕ, List, IfOk, OnOk};
+ghost use Rattle.disk_trait.specs.Moments.{Onward};
+ghost use Rattle.cluster_cli.specs.State.{CommandStep};
+ghost use Rattle.cluster_cli.specs.Kept.{state_of, Fits};
 
 use crate::cluster::Cluster;
-use cache_key::{CacheName, HostName, Key, Mutation, Value};
-use cache_model::{collect_contents, find_value};
-use script_lines::{
-    Answer, Command, Event, Events, Outcome, Outcomes, PartitionDump, PartitionDumps, Refusal,
-};
+use crate::events::run_events;
+use crate::store::{FIRST_STORE, make_store};
+use cache_key::{HostName, Mutation};
+use cache_model::collect_contents;
+use disk_trait::{Disk, DiskRefusal};
+use script_lines::{Answer, Command, Events, Outcomes, PartitionDump, PartitionDumps, Refusal};
 use std::alloc::{AllocError, Global};
-use store_ident::StoreId;
-
-// The first store of the one partition, on the first host of the site.
-const FIRST_STORE: StoreId = StoreId {
-    partition: 0,
-    version: 1,
-    epoch: 1,
-    host: 0,
-};
 
 /// Carries out a command. After want of memory some events of it may be done.
-pub fn obey(
+pub fn obey<D: Disk>(
     alloc: Global,
     hosts: &[HostName],
+    disk: &mut D,
     cluster: &mut Cluster,
     command: Command,
 ) -> Result<Answer, AllocError>
-    ensures { IfOk result (λ answer. CommandStep hosts.now (state_of cluster.old) command answer (state_of cluster.new)) }
+    requires fits { Fits cluster.old (D.view disk.old) }
+    ensures step { IfOk result (λ answer. CommandStep hosts.now (state_of cluster.old (D.view disk.old).faults) command answer (state_of cluster.new (D.view disk.new).faults)) }
+    ensures fits { OnOk result (Fits cluster.new (D.view disk.new)) }
+    ensures onward { Onward (D.view disk.old) (D.view disk.new) }
 {
     match command {
-        Command::Create { host } => create(alloc, hosts, cluster, host),
+        Command::Create { host } => create(alloc, hosts, disk, cluster, host),
         Command::Dump => dump(alloc, cluster),
-        Command::Steps { events } => steps(alloc, cluster, events),
+        Command::Steps { events } => steps(alloc, disk, cluster, events),
     }
 }
 
@@ -44,36 +39,54 @@ fn refused(refusal: Refusal) -> Answer
     Answer::Refused { refusal }
 }
 
-fn create(
+// After a refusal, but that a cluster is open, the disk is started anew, so that nothing is pending on it.
+fn create<D: Disk>(
     alloc: Global,
     hosts: &[HostName],
+    disk: &mut D,
     cluster: &mut Cluster,
     host: HostName,
 ) -> Result<Answer, AllocError>
-    ensures { IfOk result (λ answer. CommandStep hosts.now (state_of cluster.old) (Command.Create host) answer (state_of cluster.new)) }
+    requires fits { Fits cluster.old (D.view disk.old) }
+    ensures step { IfOk result (λ answer. CommandStep hosts.now (state_of cluster.old (D.view disk.old).faults) (Command.Create host) answer (state_of cluster.new (D.view disk.new).faults)) }
+    ensures fits { OnOk result (Fits cluster.new (D.view disk.new)) }
+    ensures onward { Onward (D.view disk.old) (D.view disk.new) }
 {
-    match cluster {
-        Cluster::Open { .. } => Ok(refused(Refusal::Open)),
-        Cluster::Closed => {
-            if !hosts.contains(&host) {
-                return Ok(refused(Refusal::NotMember { host }));
-            }
-            let member = host.copy()?;
+    if let Cluster::Open { .. } = cluster {
+        return Ok(refused(Refusal::Open));
+    }
+    if !hosts.contains(&host) {
+        disk.restart();
+        return Ok(refused(Refusal::NotMember { host }));
+    }
+    let member = host.copy()?;
+    match make_store(disk) {
+        Ok(store) => {
             *cluster = Cluster::Open {
                 host: member,
                 mutations: Vec::new(alloc),
+                store: Some(store),
             };
             Ok(Answer::Created { host })
+        }
+        Err(DiskRefusal::NoMemory) => Err(AllocError),
+        Err(DiskRefusal::Failed) => {
+            disk.restart();
+            Ok(refused(Refusal::Fault { host }))
         }
     }
 }
 
 fn dump(alloc: Global, cluster: &Cluster) -> Result<Answer, AllocError>
-    ensures { IfOk result (λ answer. (names : List (List ℕ)) → CommandStep names (state_of cluster.now) Command.Dump answer (state_of cluster.now)) }
+    ensures { IfOk result (λ answer. (names : List (List ℕ)) (faults : ℕ) → CommandStep names (state_of cluster.now faults) Command.Dump answer (state_of cluster.now faults)) }
 {
     match cluster {
         Cluster::Closed => Ok(refused(Refusal::Closed)),
-        Cluster::Open { host, mutations } => {
+        Cluster::Open {
+            host,
+            mutations,
+            ..
+        } => {
             let caches = collect_contents(alloc, mutations)?;
             let mut partitions = Vec::new(alloc);
             if !caches.caches().is_empty() {
@@ -91,60 +104,22 @@ fn dump(alloc: Global, cluster: &Cluster) -> Result<Answer, AllocError>
     }
 }
 
-fn steps(alloc: Global, cluster: &mut Cluster, events: Events) -> Result<Answer, AllocError>
-    ensures { IfOk result (λ answer. (names : List (List ℕ)) → CommandStep names (state_of cluster.old) (Command.Steps events) answer (state_of cluster.new)) }
-{
-    match cluster {
-        Cluster::Closed => Ok(refused(Refusal::Closed)),
-        Cluster::Open { mutations, .. } => {
-            let outcomes = run_events(alloc, mutations, events.into_vec())?;
-            Ok(Answer::Stepped {
-                outcomes: Outcomes::of(outcomes),
-            })
-        }
-    }
-}
-
-fn run_events(
+fn steps<D: Disk>(
     alloc: Global,
-    mutations: &mut Vec<Mutation>,
-    events: Vec<Event>,
-) -> Result<Vec<Outcome>, AllocError>
-    ensures { IfOk result (λ outcomes. EventRun (changes_of mutations.old.items) events.items outcomes.items (changes_of mutations.new.items)) }
+    disk: &mut D,
+    cluster: &mut Cluster,
+    events: Events,
+) -> Result<Answer, AllocError>
+    requires fits { Fits cluster.old (D.view disk.old) }
+    ensures step { IfOk result (λ answer. (names : List (List ℕ)) → CommandStep names (state_of cluster.old (D.view disk.old).faults) (Command.Steps events) answer (state_of cluster.new (D.view disk.new).faults)) }
+    ensures fits { OnOk result (Fits cluster.new (D.view disk.new)) }
+    ensures onward { Onward (D.view disk.old) (D.view disk.new) }
 {
-    let mut outcomes = Vec::new(alloc);
-    for event in events {
-        let outcome = run_event(mutations, event)?;
-        outcomes.push(outcome)?;
+    if let Cluster::Closed = cluster {
+        return Ok(refused(Refusal::Closed));
     }
-    Ok(outcomes)
-}
-
-fn run_event(mutations: &mut Vec<Mutation>, event: Event) -> Result<Outcome, AllocError>
-    ensures { IfOk result (λ outcome. EventStep (changes_of mutations.old.items) event outcome (changes_of mutations.new.items)) }
-{
-    match event {
-        Event::Get { cache, key } => {
-            let value = copy_value(mutations, &cache, &key)?;
-            Ok(Outcome::Value { value })
-        }
-        Event::Put { cache, key, value } => {
-            let before = copy_value(mutations, &cache, &key)?;
-            mutations.push(Mutation::Put(cache, key, value))?;
-            Ok(Outcome::Value { value: before })
-        }
-    }
-}
-
-fn copy_value(
-    mutations: &[Mutation],
-    cache: &CacheName,
-    key: &Key,
-) -> Result<Option<Value>, AllocError>
-    ensures { IfOk result (λ value. value ≡ value_after (changes_of mutations.now) cache.now key.now) }
-{
-    match find_value(mutations, cache, key) {
-        Some(value) => Ok(Some(value.copy()?)),
-        None => Ok(None),
-    }
+    let outcomes = run_events(alloc, disk, cluster, events.into_vec())?;
+    Ok(Answer::Stepped {
+        outcomes: Outcomes::of(outcomes),
+    })
 }

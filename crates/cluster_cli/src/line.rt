@@ -1,32 +1,40 @@
 //! A line of a script and its answer.
-ghost use Rattle.std.specs.Prelude.{◌≡◌, ◌≢◌, ℕ, ◌≤◌, [], IfOk, OnOk, IsErrOf};
+ghost use Rattle.std.specs.Prelude.{◌≡◌, ◌≢◌, ℕ, ◌≤◌, [], IfOk, OnOk, OnErr, IsErrOf};
 ghost use Rattle.std.specs.Option.{ForSome};
 ghost use Rattle.fault_count.specs.Rose.{Rose};
 ghost use Rattle.script_lines.specs.Form.{HasNoForm};
-ghost use Rattle.cluster_cli.specs.Kept.{state_of};
+ghost use Rattle.disk_trait.specs.Moments.{Onward};
+ghost use Rattle.cluster_cli.specs.Kept.{state_of, Fits};
 ghost use Rattle.cluster_cli.specs.Progress.{AnswerStep, IsAnswered};
+ghost use Rattle.cluster_cli.specs.Cuts.{IsCutLine};
 
 use crate::cluster::Cluster;
 use crate::command::obey;
 use crate::session::Stop;
 use byte_streams::{Sink, write_all};
 use cache_key::HostName;
+use disk_trait::Disk;
 use report_lines::print;
 use script_lines::{LineFault, read_line};
 use std::alloc::Global;
 
 /// Carries out the line of this number, if it isn't empty, and writes its answer.
-pub fn answer_line<K: Sink>(
+pub fn answer_line<K: Sink, D: Disk>(
     alloc: Global,
     hosts: &[HostName],
     sink: &mut K,
+    disk: &mut D,
     cluster: &mut Cluster,
     line: &[u8],
     number: u32,
 ) -> Result<(), Stop>
-    ensures told { OnOk result (ForSome (K.written sink.old) (λ before. IsAnswered hosts.now (state_of cluster.old) line.now before (K.written sink.new) (state_of cluster.new))) }
+    requires fits { Fits cluster.old (D.view disk.old) }
+    ensures told { OnOk result (ForSome (K.written sink.old) (λ before. IsAnswered hosts.now (state_of cluster.old (D.view disk.old).faults) line.now before (K.written sink.new) (state_of cluster.new (D.view disk.new).faults))) }
+    ensures cut { OnErr result (ForSome (K.written sink.old) (λ before. IsCutLine hosts.now (state_of cluster.old (D.view disk.old).faults) line.now before (K.written sink.new) (D.view disk.new).faults)) }
     ensures form { (n : ℕ) → IsErrOf result (Stop.Faulty n) → (n ≡ number) × (line.now ≢ []) × HasNoForm line.now }
     ensures kept { (n : ℕ) → IsErrOf result (Stop.Faulty n) → K.written sink.new ≡ K.written sink.old }
+    ensures fits { OnOk result (Fits cluster.new (D.view disk.new)) }
+    ensures onward { Onward (D.view disk.old) (D.view disk.new) }
     ensures cause { IsErrOf result Stop.WriteFault → Rose (K.faults sink.old) (K.faults sink.new) }
     ensures no_read { result ≢ Err Stop.ReadFault }
     ensures later { K.faults sink.old ≤ K.faults sink.new }
@@ -34,27 +42,31 @@ pub fn answer_line<K: Sink>(
     if line.is_empty() {
         return Ok(());
     }
-    let text = reply_line(alloc, hosts, cluster, line, number)?;
+    let text = reply_line(alloc, hosts, disk, cluster, line, number)?;
     write_all(sink, &text)?;
     Ok(())
 }
 
 // The line of the answer to a line that isn't empty.
-fn reply_line(
+fn reply_line<D: Disk>(
     alloc: Global,
     hosts: &[HostName],
+    disk: &mut D,
     cluster: &mut Cluster,
     line: &[u8],
     number: u32,
 ) -> Result<Vec<u8>, Stop>
-    ensures step { IfOk result (λ text. AnswerStep hosts.now (state_of cluster.old) line.now text.items (state_of cluster.new)) }
+    requires fits { Fits cluster.old (D.view disk.old) }
+    ensures step { IfOk result (λ text. AnswerStep hosts.now (state_of cluster.old (D.view disk.old).faults) line.now text.items (state_of cluster.new (D.view disk.new).faults)) }
     ensures form { (n : ℕ) → IsErrOf result (Stop.Faulty n) → (n ≡ number) × HasNoForm line.now }
+    ensures fits { OnOk result (Fits cluster.new (D.view disk.new)) }
+    ensures onward { Onward (D.view disk.old) (D.view disk.new) }
     ensures no_read { result ≢ Err Stop.ReadFault }
     ensures no_write { result ≢ Err Stop.WriteFault }
 {
     match read_line(alloc, line) {
         Ok(command) => {
-            let answer = obey(alloc, hosts, cluster, command)?;
+            let answer = obey(alloc, hosts, disk, cluster, command)?;
             let text = print(alloc, &answer)?;
             Ok(text)
         }

@@ -1,16 +1,21 @@
 //! The top call.
 ghost use Rattle.std.specs.Prelude.{◌≡◌, ◌≢◌, ◌⊎◌, ℕ, ◌<◌, ◌≤◌, List, IfOk, OnOk, IsErrOf, IsTrue, IsFalse, length, vec_len, Some};
 ghost use Rattle.fault_count.specs.Rose.{Rose};
+ghost use Rattle.disk_trait.specs.Moments.{Onward};
+ghost use Rattle.seal_gate.specs.Seal.{IsSettled};
 ghost use Rattle.report_lines.specs.declared.fault.Fault.TheVariants as faults;
-ghost use Rattle.cluster_cli.specs.Words.{IsPlan, HasNoPlan, words_of};
-ghost use Rattle.cluster_cli.specs.Report.{IsReported};
+ghost use Rattle.script_lines.specs.declared.command.Command.{Command};
+ghost use Rattle.cluster_cli.specs.Codes.{IsOfNoPlan};
+ghost use Rattle.cluster_cli.specs.Cuts.{Leaves, IsCutShort};
+ghost use Rattle.cluster_cli.specs.Ends.{EndsWith, BeginsWith, IsSiteOf, HasLanes, AreDisks, From, IsReportedAndStored, EndsReport};
+ghost use Rattle.cluster_cli.specs.Faults.{IsReportedToFault};
+ghost use Rattle.cluster_cli.specs.Kept.{Fits};
 ghost use Rattle.cluster_cli.specs.Progress.{Reached, Underway, taken_bytes};
-ghost use Rattle.cluster_cli.specs.Ends.{EndsWith, IsSiteOf};
-ghost use Rattle.cluster_cli.specs.Faults.{StopsAt, IsReportedToFault};
 ghost use Rattle.cluster_cli.specs.Reads.{IsReportedSoFar, IsReportedToRead};
 ghost use Rattle.cluster_cli.specs.Script.{IsScriptOf};
-ghost use Rattle.cluster_cli.specs.Codes.{IsOfNoPlan};
-ghost use Rattle.script_lines.specs.declared.command.Command.{Command};
+ghost use Rattle.cluster_cli.specs.State.{State, begun, up_to};
+ghost use Rattle.cluster_cli.specs.Words.{IsPlan, IsPlanned, HasNoPlan, words_of};
+ghost use Rattle.cluster_cli.specs.declared.session.Stop.{Stop};
 
 use crate::script::{begin, finish, take_piece};
 use crate::session::{Session, Stop};
@@ -19,6 +24,7 @@ use crate::status::{Status, code};
 use crate::words::{WordFault, site_plan};
 use byte_streams::{Sink, SinkRefusal, Source, write_all};
 use cache_key::HostName;
+use disk_trait::Disk;
 use report_lines::{Fault, print_fault};
 use std::alloc::{AllocError, Global};
 
@@ -27,37 +33,46 @@ const PIECE_BYTES: usize = 65_536;
 
 /// Carries out the script of the source by the plan of the words, on the site, and writes its report to the sink.
 ///
-/// The words don't have the program's own name. The site has the plan's hosts and partitions; it is given back.
-/// The status and the last line for each way to end: docs/SCRIPT.md. Always returns: the limits end a script.
-pub fn run_steps<R, S: Source, K: Sink, D, V>(
+/// The words don't have the program's own name. The site has the plan's hosts and partitions; it is given back, with what
+/// its disks then hold. The status and the last line for each way to end: docs/SCRIPT.md. Always returns: the limits end a
+/// script.
+pub fn run_steps<R, S: Source, K: Sink, D: Disk, V>(
     _rt: &R,
     alloc: Global,
     words: &[String],
     source: &mut S,
     sink: &mut K,
-    site: Site<D, V>,
+    mut site: Site<D, V>,
 ) -> Ended<D, V>
     requires site { IsSiteOf (words_of words.now) site.hosts.items site.partitions }
+    requires lanes { HasLanes site.lanes.items site.partitions (vec_len site.hosts) }
 
-    // The whole script was answered.
-    ensures report { result.status ≡ 0 → (script before : List ℕ) → S.left source.old ≡ Some script → K.written sink.old ≡ Some before → IsReported site.hosts.items script before (K.written sink.new) }
+    // The whole script was answered, and what was changed is stored.
+    ensures report { result.status ≡ 0 → (script before : List ℕ) (old new : D) → S.left source.old ≡ Some script → K.written sink.old ≡ Some before → AreDisks site.lanes.items result.site.lanes.items old new → IsReportedAndStored site.hosts.items script before (D.view old) (D.view new) (K.written sink.new) }
 
     // What else ends a run.
     ensures words { result.status ≡ 1 → HasNoPlan (words_of words.now) }
     ensures told { result.status ≡ 1 → EndsWith faults.Words (K.written sink.old) (K.written sink.new) }
-    ensures faulty { result.status ≡ 2 → (script before : List ℕ) → S.left source.old ≡ Some script → K.written sink.old ≡ Some before → IsReportedToFault site.hosts.items script before (K.written sink.new) }
+    ensures faulty { result.status ≡ 2 → (script before : List ℕ) (old new : D) → S.left source.old ≡ Some script → K.written sink.old ≡ Some before → AreDisks site.lanes.items result.site.lanes.items old new → From (D.view old).faults (λ first. IsReportedToFault site.hosts.items (up_to first (D.view new).faults) script before (K.written sink.new)) }
     ensures no_plan { HasNoPlan (words_of words.now) → (result.status ≢ 0) × (result.status ≢ 2) × (result.status ≢ 3) }
     ensures read { result.status ≡ 3 → Rose (S.faults source.old) (S.faults source.new) }
-    ensures stopped { result.status ≡ 3 → (script before : List ℕ) → S.left source.old ≡ Some script → K.written sink.old ≡ Some before → IsReportedToRead site.hosts.items script before (S.left source.new) (K.written sink.new) }
+    ensures stopped { result.status ≡ 3 → (script before : List ℕ) (old new : D) → S.left source.old ≡ Some script → K.written sink.old ≡ Some before → AreDisks site.lanes.items result.site.lanes.items old new → From (D.view old).faults (λ first. IsReportedToRead site.hosts.items (up_to first (D.view new).faults) script before (S.left source.new) (K.written sink.new)) }
     ensures write { result.status ≡ 4 → Rose (K.faults sink.old) (K.faults sink.new) }
     ensures known { result.status ≤ 5 }
+
+    // What is written where a run ends with 4 or 5 is a front of such a text.
+    ensures cut { IsPlanned (words_of words.now) → (result.status ≡ 4) ⊎ (result.status ≡ 5) → (script before : List ℕ) (old new : D) → S.left source.old ≡ Some script → K.written sink.old ≡ Some before → AreDisks site.lanes.items result.site.lanes.items old new → From (D.view old).faults (λ first. IsCutShort site.hosts.items (up_to first (D.view new).faults) script before (S.left source.new) (K.written sink.new)) }
+    ensures cut_words { HasNoPlan (words_of words.now) → BeginsWith faults.Words (K.written sink.old) (K.written sink.new) }
 
     // A good script is answered, unless a stream fails or memory is wanted.
     ensures complete { (script before : List ℕ) (commands : List Command) (hosts : List (List ℕ)) (count : ℕ) → S.left source.old ≡ Some script → K.written sink.old ≡ Some before → IsPlan (words_of words.now) hosts count → IsScriptOf script commands → (Rose (S.faults source.old) (S.faults source.new) → ⊥) → (Rose (K.faults sink.old) (K.faults sink.new) → ⊥) → (result.status ≡ 0) ⊎ (result.status ≡ 5) }
 
-    ensures unchanged { result.site ≡ site }
+    // The site is given back with its disks.
+    ensures unchanged { result.site ≡ record site { lanes = result.site.lanes } }
+    ensures lanes { HasLanes result.site.lanes.items site.partitions (vec_len site.hosts) }
+    ensures onward { (old new : D) → AreDisks site.lanes.items result.site.lanes.items old new → Onward (D.view old) (D.view new) }
 {
-    let status = run_words(alloc, words, &site.hosts, source, sink);
+    let status = run_words(alloc, words, source, sink, &mut site);
     Ended {
         status: code(status),
         site,
@@ -65,45 +80,58 @@ pub fn run_steps<R, S: Source, K: Sink, D, V>(
 }
 
 // Carries out a script by the plan of the words, if they have one.
-fn run_words<S: Source, K: Sink>(
+fn run_words<S: Source, K: Sink, D: Disk, V>(
     alloc: Global,
     words: &[String],
-    hosts: &[HostName],
     source: &mut S,
     sink: &mut K,
+    site: &mut Site<D, V>,
 ) -> Status
-    ensures report { result ≡ Status.Done → (script before : List ℕ) → S.left source.old ≡ Some script → K.written sink.old ≡ Some before → IsReported hosts.now script before (K.written sink.new) }
+    requires site { IsSiteOf (words_of words.now) site.old.hosts.items site.old.partitions }
+    requires lanes { HasLanes site.old.lanes.items site.old.partitions (vec_len site.old.hosts) }
+    ensures report { result ≡ Status.Done → (script before : List ℕ) (old new : D) → S.left source.old ≡ Some script → K.written sink.old ≡ Some before → AreDisks site.old.lanes.items site.new.lanes.items old new → IsReportedAndStored site.old.hosts.items script before (D.view old) (D.view new) (K.written sink.new) }
     ensures words { result ≡ Status.WordFault → HasNoPlan (words_of words.now) }
     ensures told { result ≡ Status.WordFault → EndsWith faults.Words (K.written sink.old) (K.written sink.new) }
-    ensures faulty { result ≡ Status.ScriptFault → (script before : List ℕ) → S.left source.old ≡ Some script → K.written sink.old ≡ Some before → IsReportedToFault hosts.now script before (K.written sink.new) }
-    ensures stopped { result ≡ Status.ReadFault → (script before : List ℕ) → S.left source.old ≡ Some script → K.written sink.old ≡ Some before → IsReportedToRead hosts.now script before (S.left source.new) (K.written sink.new) }
+    ensures ends { (HasNoPlan (words_of words.now) → ⊥) → (script before : List ℕ) (old new : D) → S.left source.old ≡ Some script → K.written sink.old ≡ Some before → AreDisks site.old.lanes.items site.new.lanes.items old new → From (D.view old).faults (λ first. EndsReport site.old.hosts.items (up_to first (D.view new).faults) script before result (S.left source.new) (K.written sink.new)) }
     ensures no_plan { HasNoPlan (words_of words.now) → IsOfNoPlan result }
+    ensures cut_words { HasNoPlan (words_of words.now) → BeginsWith faults.Words (K.written sink.old) (K.written sink.new) }
     ensures read { result ≡ Status.ReadFault → Rose (S.faults source.old) (S.faults source.new) }
     ensures write { result ≡ Status.WriteFault → Rose (K.faults sink.old) (K.faults sink.new) }
+    ensures unchanged { site.new ≡ record site.old { lanes = site.new.lanes } }
+    ensures lanes { HasLanes site.new.lanes.items site.old.partitions (vec_len site.old.hosts) }
+    ensures onward { (old new : D) → AreDisks site.old.lanes.items site.new.lanes.items old new → Onward (D.view old) (D.view new) }
 {
     match site_plan(alloc, words) {
         Ok(_) => {}
         Err(WordFault::Words) => return tell(alloc, sink, Fault::Words, Status::WordFault),
         Err(WordFault::NoMemory) => return Status::NoMemory,
     }
-    run_plan(alloc, hosts, source, sink)
+    run_plan(
+        alloc,
+        &site.hosts,
+        source,
+        sink,
+        &mut site.lanes[0].disks[0],
+    )
 }
 
-// Carries out a script by a plan.
-fn run_plan<S: Source, K: Sink>(
+// Carries out a script by a plan, on the disk, which is started anew.
+fn run_plan<S: Source, K: Sink, D: Disk>(
     alloc: Global,
     hosts: &[HostName],
     source: &mut S,
     sink: &mut K,
+    disk: &mut D,
 ) -> Status
-    ensures report { result ≡ Status.Done → (script before : List ℕ) → S.left source.old ≡ Some script → K.written sink.old ≡ Some before → IsReported hosts.now script before (K.written sink.new) }
+    ensures report { result ≡ Status.Done → (script before : List ℕ) → S.left source.old ≡ Some script → K.written sink.old ≡ Some before → IsReportedAndStored hosts.now script before (D.view disk.old) (D.view disk.new) (K.written sink.new) }
     ensures words { result ≢ Status.WordFault }
-    ensures faulty { result ≡ Status.ScriptFault → (script before : List ℕ) → S.left source.old ≡ Some script → K.written sink.old ≡ Some before → IsReportedToFault hosts.now script before (K.written sink.new) }
-    ensures stopped { result ≡ Status.ReadFault → (script before : List ℕ) → S.left source.old ≡ Some script → K.written sink.old ≡ Some before → IsReportedToRead hosts.now script before (S.left source.new) (K.written sink.new) }
+    ensures ends { (script before : List ℕ) → S.left source.old ≡ Some script → K.written sink.old ≡ Some before → From (D.view disk.old).faults (λ first. EndsReport hosts.now (up_to first (D.view disk.new).faults) script before result (S.left source.new) (K.written sink.new)) }
     ensures read { result ≡ Status.ReadFault → Rose (S.faults source.old) (S.faults source.new) }
     ensures write { result ≡ Status.WriteFault → Rose (K.faults sink.old) (K.faults sink.new) }
+    ensures onward { Onward (D.view disk.old) (D.view disk.new) }
 {
-    match run_script(alloc, hosts, source, sink) {
+    disk.restart();
+    match run_script(alloc, hosts, source, sink, disk) {
         Ok(()) => Status::Done,
         Err(Stop::Faulty { line }) => tell(
             alloc,
@@ -122,6 +150,7 @@ fn run_plan<S: Source, K: Sink>(
 fn tell<K: Sink>(alloc: Global, sink: &mut K, fault: Fault, status: Status) -> Status
     ensures known { (result ≢ status) → (result ≢ Status.WriteFault) → result ≡ Status.NoMemory }
     ensures told { result ≡ status → status ≢ Status.WriteFault → status ≢ Status.NoMemory → EndsWith fault (K.written sink.old) (K.written sink.new) }
+    ensures cut { BeginsWith fault (K.written sink.old) (K.written sink.new) }
     ensures write { result ≡ Status.WriteFault → status ≢ Status.WriteFault → Rose (K.faults sink.old) (K.faults sink.new) }
     ensures later { K.faults sink.old ≤ K.faults sink.new }
 {
@@ -136,23 +165,27 @@ fn tell<K: Sink>(alloc: Global, sink: &mut K, fault: Fault, status: Status) -> S
 }
 
 // Answers every line of the script.
-fn run_script<S: Source, K: Sink>(
+fn run_script<S: Source, K: Sink, D: Disk>(
     alloc: Global,
     hosts: &[HostName],
     source: &mut S,
     sink: &mut K,
+    disk: &mut D,
 ) -> Result<(), Stop>
-    ensures told { OnOk result ((script before : List ℕ) → S.left source.old ≡ Some script → K.written sink.old ≡ Some before → IsReported hosts.now script before (K.written sink.new)) }
-    ensures faulty { (n : ℕ) → IsErrOf result (Stop.Faulty n) → (script before : List ℕ) → S.left source.old ≡ Some script → K.written sink.old ≡ Some before → StopsAt hosts.now script before n (K.written sink.new) }
-    ensures stopped { IsErrOf result Stop.ReadFault → (script before : List ℕ) → S.left source.old ≡ Some script → K.written sink.old ≡ Some before → IsReportedSoFar hosts.now script before (S.left source.new) (K.written sink.new) }
+    requires first { IsSettled (D.view disk.old) 0 }
+    requires other { IsSettled (D.view disk.old) 1 }
+    ensures told { OnOk result ((script before : List ℕ) → S.left source.old ≡ Some script → K.written sink.old ≡ Some before → IsReportedAndStored hosts.now script before (D.view disk.old) (D.view disk.new) (K.written sink.new)) }
+    ensures stops { (stop : Stop) → IsErrOf result stop → (script before : List ℕ) → S.left source.old ≡ Some script → K.written sink.old ≡ Some before → Leaves hosts.now (up_to (begun (D.view disk.old).faults) (D.view disk.new).faults) script before stop (K.written sink.new) }
+    ensures stopped { IsErrOf result Stop.ReadFault → (script before : List ℕ) → S.left source.old ≡ Some script → K.written sink.old ≡ Some before → IsReportedSoFar hosts.now (up_to (begun (D.view disk.old).faults) (D.view disk.new).faults) script before (S.left source.new) (K.written sink.new) }
     ensures read { IsErrOf result Stop.ReadFault → Rose (S.faults source.old) (S.faults source.new) }
     ensures write { IsErrOf result Stop.WriteFault → Rose (K.faults sink.old) (K.faults sink.new) }
     ensures later { K.faults sink.old ≤ K.faults sink.new }
+    ensures onward { Onward (D.view disk.old) (D.view disk.new) }
 {
     let mut room = room_for(alloc, PIECE_BYTES)?;
     let mut session = begin(alloc);
-    answer_pieces(alloc, hosts, source, sink, &mut session, &mut room)?;
-    finish(alloc, hosts, sink, &mut session)?;
+    answer_pieces(alloc, hosts, source, sink, disk, &mut session, &mut room)?;
+    finish(alloc, hosts, sink, disk, &mut session)?;
     Ok(())
 }
 
@@ -165,50 +198,58 @@ fn room_for(alloc: Global, size: usize) -> Result<Vec<u8>, AllocError>
 }
 
 // Reads the script to its end, and answers each line that ends in it.
-fn answer_pieces<S: Source, K: Sink>(
+fn answer_pieces<S: Source, K: Sink, D: Disk>(
     alloc: Global,
     hosts: &[HostName],
     source: &mut S,
     sink: &mut K,
+    disk: &mut D,
     session: &mut Session,
     room: &mut [u8],
 ) -> Result<(), Stop>
-    requires { 0 < length room.old }
-    ensures told { OnOk result ((script before : List ℕ) → Underway hosts.now script before session.old (S.left source.old) (K.written sink.old) → Reached hosts.now script before session.new (K.written sink.new)) }
-    ensures faulty { (n : ℕ) → IsErrOf result (Stop.Faulty n) → (script before : List ℕ) → Underway hosts.now script before session.old (S.left source.old) (K.written sink.old) → StopsAt hosts.now script before n (K.written sink.new) }
-    ensures stopped { IsErrOf result Stop.ReadFault → (script before : List ℕ) → Underway hosts.now script before session.old (S.left source.old) (K.written sink.old) → Underway hosts.now script before session.new (S.left source.new) (K.written sink.new) }
+    requires room { 0 < length room.old }
+    requires fits { Fits session.old.cluster (D.view disk.old) }
+    ensures told { OnOk result ((first : State) (script before : List ℕ) → Underway hosts.now first script before session.old (D.view disk.old).faults (S.left source.old) (K.written sink.old) → Reached hosts.now first script before session.new (D.view disk.new).faults (K.written sink.new)) }
+    ensures stops { (stop : Stop) → IsErrOf result stop → (first : State) (script before : List ℕ) → Underway hosts.now first script before session.old (D.view disk.old).faults (S.left source.old) (K.written sink.old) → Leaves hosts.now (up_to first (D.view disk.new).faults) script before stop (K.written sink.new) }
+    ensures stopped { IsErrOf result Stop.ReadFault → (first : State) (script before : List ℕ) → Underway hosts.now first script before session.old (D.view disk.old).faults (S.left source.old) (K.written sink.old) → Underway hosts.now first script before session.new (D.view disk.new).faults (S.left source.new) (K.written sink.new) }
     ensures read { IsErrOf result Stop.ReadFault → Rose (S.faults source.old) (S.faults source.new) }
     ensures write { IsErrOf result Stop.WriteFault → Rose (K.faults sink.old) (K.faults sink.new) }
     ensures later { K.faults sink.old ≤ K.faults sink.new }
+    ensures fits { OnOk result (Fits session.new.cluster (D.view disk.new)) }
+    ensures onward { Onward (D.view disk.old) (D.view disk.new) }
 {
-    'pieces: while read_piece(alloc, hosts, source, sink, session, room)? {}
+    'pieces: while read_piece(alloc, hosts, source, sink, disk, session, room)? {}
     Ok(())
 }
 
 // Reads one piece of the script and answers each line that ends in it; false at the source's end.
-fn read_piece<S: Source, K: Sink>(
+fn read_piece<S: Source, K: Sink, D: Disk>(
     alloc: Global,
     hosts: &[HostName],
     source: &mut S,
     sink: &mut K,
+    disk: &mut D,
     session: &mut Session,
     room: &mut [u8],
 ) -> Result<bool, Stop>
-    requires { 0 < length room.old }
-    ensures told { OnOk result ((script before : List ℕ) → Underway hosts.now script before session.old (S.left source.old) (K.written sink.old) → Underway hosts.now script before session.new (S.left source.new) (K.written sink.new)) }
-    ensures faulty { (n : ℕ) → IsErrOf result (Stop.Faulty n) → (script before : List ℕ) → Underway hosts.now script before session.old (S.left source.old) (K.written sink.old) → StopsAt hosts.now script before n (K.written sink.new) }
-    ensures end { IfOk result (λ more. IsFalse more → (script before : List ℕ) → Underway hosts.now script before session.old (S.left source.old) (K.written sink.old) → Reached hosts.now script before session.new (K.written sink.new)) }
+    requires room { 0 < length room.old }
+    requires fits { Fits session.old.cluster (D.view disk.old) }
+    ensures told { OnOk result ((first : State) (script before : List ℕ) → Underway hosts.now first script before session.old (D.view disk.old).faults (S.left source.old) (K.written sink.old) → Underway hosts.now first script before session.new (D.view disk.new).faults (S.left source.new) (K.written sink.new)) }
+    ensures stops { (stop : Stop) → IsErrOf result stop → (first : State) (script before : List ℕ) → Underway hosts.now first script before session.old (D.view disk.old).faults (S.left source.old) (K.written sink.old) → Leaves hosts.now (up_to first (D.view disk.new).faults) script before stop (K.written sink.new) }
+    ensures end { IfOk result (λ more. IsFalse more → (first : State) (script before : List ℕ) → Underway hosts.now first script before session.old (D.view disk.old).faults (S.left source.old) (K.written sink.old) → Reached hosts.now first script before session.new (D.view disk.new).faults (K.written sink.new)) }
     ensures size { IfOk result (λ more. IsTrue more → taken_bytes session.old < taken_bytes session.new) }
-    ensures stopped { IsErrOf result Stop.ReadFault → (script before : List ℕ) → Underway hosts.now script before session.old (S.left source.old) (K.written sink.old) → Underway hosts.now script before session.new (S.left source.new) (K.written sink.new) }
+    ensures stopped { IsErrOf result Stop.ReadFault → (first : State) (script before : List ℕ) → Underway hosts.now first script before session.old (D.view disk.old).faults (S.left source.old) (K.written sink.old) → Underway hosts.now first script before session.new (D.view disk.new).faults (S.left source.new) (K.written sink.new) }
     ensures read { IsErrOf result Stop.ReadFault → Rose (S.faults source.old) (S.faults source.new) }
     ensures write { IsErrOf result Stop.WriteFault → Rose (K.faults sink.old) (K.faults sink.new) }
     ensures read_later { S.faults source.old ≤ S.faults source.new }
     ensures write_later { K.faults sink.old ≤ K.faults sink.new }
+    ensures fits { OnOk result (Fits session.new.cluster (D.view disk.new)) }
+    ensures onward { Onward (D.view disk.old) (D.view disk.new) }
 {
     let count = source.read(room)?;
     if count == 0 {
         return Ok(false);
     }
-    take_piece(alloc, hosts, sink, session, &room[..count])?;
+    take_piece(alloc, hosts, sink, disk, session, &room[..count])?;
     Ok(true)
 }

@@ -1,21 +1,27 @@
 //! A script in pieces, and its lines.
 ghost use Rattle.std.specs.Prelude.{◌≡◌, ◌≢◌, ℕ, ◌+◌, ◌<◌, ◌≤◌, List, [], ◌∷◌, ◌++◌, length, take, drop, OnOk, IfSome, IfNone, IsErrOf, Option, Some};
 ghost use Rattle.fault_count.specs.Rose.{Rose};
+ghost use Rattle.disk_trait.specs.Moments.{Onward};
 ghost use Rattle.cluster_cli.specs.Script.{line_feed, ended, HasNoLineFeed};
 ghost use Rattle.cluster_cli.specs.Progress.{Holds, IsPast, Reached, taken_bytes};
 ghost use Rattle.cluster_cli.specs.Report.{IsReported};
-ghost use Rattle.cluster_cli.specs.Faults.{StopsAt};
+ghost use Rattle.cluster_cli.specs.Cuts.{Leaves};
+ghost use Rattle.cluster_cli.specs.Kept.{state_of, Fits};
+ghost use Rattle.cluster_cli.specs.State.{State, begun, up_to};
+ghost use Rattle.cluster_cli.specs.declared.session.Stop.{Stop};
 
 use crate::cluster::Cluster;
 use crate::line::answer_line;
 use crate::session::{MOST_LINE_BYTES, MOST_LINES, MOST_SCRIPT_BYTES, Session, Stop};
 use byte_streams::Sink;
 use cache_key::HostName;
+use disk_trait::Disk;
 use std::alloc::Global;
 
 /// A session that has nothing of its script yet.
 pub fn begin(alloc: Global) -> Session
-    ensures { (hosts : List (List ℕ)) (before : List ℕ) (written : Option (List ℕ)) → written ≡ Some before → Reached hosts [] before result written }
+    ensures told { (hosts : List (List ℕ)) (faults : ℕ) (before : List ℕ) (written : Option (List ℕ)) → written ≡ Some before → Reached hosts (begun faults) [] before result faults written }
+    ensures closed { result.cluster ≡ Cluster.Closed }
 {
     Session {
         partial: Vec::new(alloc),
@@ -68,18 +74,22 @@ fn hold(session: &mut Session, more: &[u8]) -> Result<(), Stop>
 }
 
 // Answers the line under way, whose line feed has come.
-fn close<K: Sink>(
+fn close<K: Sink, D: Disk>(
     alloc: Global,
     hosts: &[HostName],
     sink: &mut K,
+    disk: &mut D,
     session: &mut Session,
 ) -> Result<(), Stop>
-    ensures told { OnOk result ((given before : List ℕ) → Reached hosts.now given before session.old (K.written sink.old) → Reached hosts.now (given ++ line_feed ∷ []) before session.new (K.written sink.new)) }
-    ensures faulty { (n : ℕ) → IsErrOf result (Stop.Faulty n) → (given before after : List ℕ) → Reached hosts.now given before session.old (K.written sink.old) → StopsAt hosts.now (given ++ line_feed ∷ after) before n (K.written sink.new) }
+    requires fits { Fits session.old.cluster (D.view disk.old) }
+    ensures told { OnOk result ((first : State) (given before : List ℕ) → Reached hosts.now first given before session.old (D.view disk.old).faults (K.written sink.old) → Reached hosts.now first (given ++ line_feed ∷ []) before session.new (D.view disk.new).faults (K.written sink.new)) }
+    ensures stops { (stop : Stop) → IsErrOf result stop → (first : State) (given before after : List ℕ) → Reached hosts.now first given before session.old (D.view disk.old).faults (K.written sink.old) → Leaves hosts.now (up_to first (D.view disk.new).faults) (given ++ line_feed ∷ after) before stop (K.written sink.new) }
     ensures size { OnOk result (taken_bytes session.new ≡ taken_bytes session.old + 1) }
     ensures cause { IsErrOf result Stop.WriteFault → Rose (K.faults sink.old) (K.faults sink.new) }
     ensures no_read { result ≢ Err Stop.ReadFault }
     ensures later { K.faults sink.old ≤ K.faults sink.new }
+    ensures fits { OnOk result (Fits session.new.cluster (D.view disk.new)) }
+    ensures onward { Onward (D.view disk.old) (D.view disk.new) }
 {
     let length = session.partial.len() as u64;
     if session.lines >= MOST_LINES || length >= MOST_SCRIPT_BYTES - session.passed {
@@ -92,6 +102,7 @@ fn close<K: Sink>(
         alloc,
         hosts,
         sink,
+        disk,
         &mut session.cluster,
         &session.partial,
         number,
@@ -103,43 +114,51 @@ fn close<K: Sink>(
 }
 
 // Adds the rest of the line under way, whose line feed has come, and answers the line.
-fn end_line<K: Sink>(
+fn end_line<K: Sink, D: Disk>(
     alloc: Global,
     hosts: &[HostName],
     sink: &mut K,
+    disk: &mut D,
     session: &mut Session,
     rest: &[u8],
 ) -> Result<(), Stop>
-    ensures told { OnOk result (HasNoLineFeed rest.now → (given before : List ℕ) → Reached hosts.now given before session.old (K.written sink.old) → Reached hosts.now (given ++ ended rest.now) before session.new (K.written sink.new)) }
-    ensures faulty { (n : ℕ) → IsErrOf result (Stop.Faulty n) → HasNoLineFeed rest.now → (given before after : List ℕ) → Reached hosts.now given before session.old (K.written sink.old) → StopsAt hosts.now (given ++ (ended rest.now ++ after)) before n (K.written sink.new) }
+    requires fits { Fits session.old.cluster (D.view disk.old) }
+    ensures told { OnOk result (HasNoLineFeed rest.now → (first : State) (given before : List ℕ) → Reached hosts.now first given before session.old (D.view disk.old).faults (K.written sink.old) → Reached hosts.now first (given ++ ended rest.now) before session.new (D.view disk.new).faults (K.written sink.new)) }
+    ensures stops { (stop : Stop) → IsErrOf result stop → HasNoLineFeed rest.now → (first : State) (given before after : List ℕ) → Reached hosts.now first given before session.old (D.view disk.old).faults (K.written sink.old) → Leaves hosts.now (up_to first (D.view disk.new).faults) (given ++ (ended rest.now ++ after)) before stop (K.written sink.new) }
     ensures size { OnOk result (taken_bytes session.new ≡ taken_bytes session.old + (length rest.now + 1)) }
     ensures cause { IsErrOf result Stop.WriteFault → Rose (K.faults sink.old) (K.faults sink.new) }
     ensures no_read { result ≢ Err Stop.ReadFault }
     ensures later { K.faults sink.old ≤ K.faults sink.new }
+    ensures fits { OnOk result (Fits session.new.cluster (D.view disk.new)) }
+    ensures onward { Onward (D.view disk.old) (D.view disk.new) }
 {
     hold(session, rest)?;
-    close(alloc, hosts, sink, session)?;
+    close(alloc, hosts, sink, disk, session)?;
     Ok(())
 }
 
 /// Takes the next piece of the script, and answers each line that ends in it.
-pub fn take_piece<K: Sink>(
+pub fn take_piece<K: Sink, D: Disk>(
     alloc: Global,
     hosts: &[HostName],
     sink: &mut K,
+    disk: &mut D,
     session: &mut Session,
     piece: &[u8],
 ) -> Result<(), Stop>
-    ensures told { OnOk result ((given before : List ℕ) → Reached hosts.now given before session.old (K.written sink.old) → Reached hosts.now (given ++ piece.now) before session.new (K.written sink.new)) }
-    ensures faulty { (n : ℕ) → IsErrOf result (Stop.Faulty n) → (given before after : List ℕ) → Reached hosts.now given before session.old (K.written sink.old) → StopsAt hosts.now (given ++ (piece.now ++ after)) before n (K.written sink.new) }
+    requires fits { Fits session.old.cluster (D.view disk.old) }
+    ensures told { OnOk result ((first : State) (given before : List ℕ) → Reached hosts.now first given before session.old (D.view disk.old).faults (K.written sink.old) → Reached hosts.now first (given ++ piece.now) before session.new (D.view disk.new).faults (K.written sink.new)) }
+    ensures stops { (stop : Stop) → IsErrOf result stop → (first : State) (given before after : List ℕ) → Reached hosts.now first given before session.old (D.view disk.old).faults (K.written sink.old) → Leaves hosts.now (up_to first (D.view disk.new).faults) (given ++ (piece.now ++ after)) before stop (K.written sink.new) }
     ensures size { OnOk result (taken_bytes session.new ≡ taken_bytes session.old + length piece.now) }
     ensures cause { IsErrOf result Stop.WriteFault → Rose (K.faults sink.old) (K.faults sink.new) }
     ensures no_read { result ≢ Err Stop.ReadFault }
     ensures later { K.faults sink.old ≤ K.faults sink.new }
+    ensures fits { OnOk result (Fits session.new.cluster (D.view disk.new)) }
+    ensures onward { Onward (D.view disk.old) (D.view disk.new) }
 {
     let mut rest = piece;
     'lines: while let Some((line, after)) = split_line(rest) {
-        end_line(alloc, hosts, sink, session, line)?;
+        end_line(alloc, hosts, sink, disk, session, line)?;
         rest = after;
     }
     hold(session, rest)?;
@@ -147,23 +166,28 @@ pub fn take_piece<K: Sink>(
 }
 
 /// Answers the piece behind the last line feed, which is a line unless it is empty.
-pub fn finish<K: Sink>(
+pub fn finish<K: Sink, D: Disk>(
     alloc: Global,
     hosts: &[HostName],
     sink: &mut K,
+    disk: &mut D,
     session: &mut Session,
 ) -> Result<(), Stop>
-    ensures told { OnOk result ((script before : List ℕ) → Reached hosts.now script before session.old (K.written sink.old) → IsReported hosts.now script before (K.written sink.new)) }
-    ensures faulty { (n : ℕ) → IsErrOf result (Stop.Faulty n) → (script before : List ℕ) → Reached hosts.now script before session.old (K.written sink.old) → StopsAt hosts.now script before n (K.written sink.new) }
+    requires fits { Fits session.old.cluster (D.view disk.old) }
+    ensures told { OnOk result ((first : State) (script before : List ℕ) → Reached hosts.now first script before session.old (D.view disk.old).faults (K.written sink.old) → IsReported hosts.now first script before (K.written sink.new) (state_of session.new.cluster (D.view disk.new).faults)) }
+    ensures stops { (stop : Stop) → IsErrOf result stop → (first : State) (script before : List ℕ) → Reached hosts.now first script before session.old (D.view disk.old).faults (K.written sink.old) → Leaves hosts.now (up_to first (D.view disk.new).faults) script before stop (K.written sink.new) }
     ensures cause { IsErrOf result Stop.WriteFault → Rose (K.faults sink.old) (K.faults sink.new) }
     ensures no_read { result ≢ Err Stop.ReadFault }
     ensures later { K.faults sink.old ≤ K.faults sink.new }
+    ensures fits { OnOk result (Fits session.new.cluster (D.view disk.new)) }
+    ensures onward { Onward (D.view disk.old) (D.view disk.new) }
 {
     let number = session.lines + 1;
     answer_line(
         alloc,
         hosts,
         sink,
+        disk,
         &mut session.cluster,
         &session.partial,
         number,

@@ -3,9 +3,8 @@ ghost use Rattle.std.specs.Prelude.{◌≡◌, ◌↔◌, [], ◌∷◌, IfOk, I
 ghost use Rattle.cluster_cli.specs.Ends.{IsSiteOf};
 ghost use Rattle.cluster_cli.specs.Words.{IsPlan, HasNoPlan, HostWord, HasNoHostWord, IsValueWord, AreFixed, unnamed_fault, words_of};
 
-use crate::site::Site;
 use cache_key::{HostName, NameFault};
-use std::alloc::{AllocError, Global};
+use std::alloc::Global;
 use thiserror::Error;
 
 /// Why words have no plan.
@@ -45,31 +44,6 @@ pub fn site_plan(alloc: Global, words: &[String]) -> Result<Plan, WordFault>
     };
     let plan = plan_on(alloc, host)?;
     Ok(plan)
-}
-
-/// The site of the words' plan, without disks; of words that have no plan one without hosts.
-pub fn bare_site(alloc: Global, words: &[String]) -> Result<Site<(), ()>, AllocError>
-    ensures { IfOk result (λ site. IsSiteOf (words_of words.now) site.hosts.items site.partitions) }
-{
-    match site_plan(alloc, words) {
-        Ok(plan) => Ok(without_disks(alloc, plan.partitions, plan.hosts)),
-        Err(WordFault::Words) => Ok(without_disks(alloc, 0, Vec::new(alloc))),
-        Err(WordFault::NoMemory) => Err(AllocError),
-    }
-}
-
-// A site of these hosts that has no disk.
-fn without_disks(alloc: Global, partitions: u16, hosts: Vec<HostName>) -> Site<(), ()>
-    ensures hosts { result.hosts.items ≡ hosts.items }
-    ensures partitions { result.partitions ≡ partitions }
-{
-    Site {
-        partitions,
-        hosts,
-        lanes: Vec::new(alloc),
-        services: Vec::new(alloc),
-        vault: (),
-    }
 }
 
 // The plan of a run on one host.

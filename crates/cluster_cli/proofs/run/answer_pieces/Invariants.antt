@@ -1,4 +1,7 @@
 use Rattle.std.proofs.Common.{ℕ, ◌-◌, ◌≤◌, List}
+use Rattle.disk_trait.specs.Moments.{Onward}
+use Rattle.cluster_cli.specs.State.{State}
+use Rattle.cluster_cli.specs.Kept.{Fits}
 use Rattle.cluster_cli.specs.Progress.{Underway, taken_bytes}
 use Rattle.cluster_cli.proofs.run.answer_pieces.Given as goal
 
@@ -7,10 +10,13 @@ abbrev pub invariant-pieces : goal.invariant-pieces
 invariant-pieces g l =
     let left = g.S.Source.left in
     let written = g.K.Sink.written in
+    let view = g.D.Disk.view in
     record {
-      told : (script before : List ℕ) → Underway l.hosts script before l.fn.session (left l.fn.source) (written l.fn.sink) → Underway l.hosts script before l.session (left l.source) (written l.sink);
+      told : (first : State) (script before : List ℕ) → Underway l.hosts first script before l.fn.session (view l.fn.disk).faults (left l.fn.source) (written l.fn.sink) → Underway l.hosts first script before l.session (view l.disk).faults (left l.source) (written l.sink);
       read_later : g.S.Source.faults l.fn.source ≤ g.S.Source.faults l.source;
       write_later : g.K.Sink.faults l.fn.sink ≤ g.K.Sink.faults l.sink;
+      fits : Fits l.session.cluster (view l.disk);
+      onward : Onward (view l.fn.disk) (view l.disk);
     }
 
 abbrev pub decreases-pieces : goal.decreases-pieces

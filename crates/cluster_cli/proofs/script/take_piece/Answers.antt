@@ -3,16 +3,20 @@ use Rattle.std.proofs.lemmas.List.{append-nil}
 use Rattle.cluster_cli.specs.Progress.{Reached}
 use Rattle.cluster_cli.proofs.ProgressLemmas.{piece_goes_on}
 use Rattle.std.proofs.lemmas.Result.{err_from_is_err_and}
-use Rattle.cluster_cli.specs.declared.session.Stop.TheVariants.{Faulty}
+use Rattle.cluster_cli.specs.State.{up_to}
 use Rattle.cluster_cli.specs.Script.{ended, HasNoLineFeed}
-use Rattle.cluster_cli.proofs.FaultLemmas.{handed_on, held_past, restated, in_piece, at_piece_end}
+use Rattle.cluster_cli.proofs.FaultLemmas.{handed_on, held_past, in_piece, at_piece_end}
+use Rattle.cluster_cli.proofs.CutLemmas.{leaves, left_as, nothing_more}
+use Rattle.disk_trait.proofs.Runs.{onward_none, onward_joined}
 use Rattle.cluster_cli.proofs.script.take_piece.Goals as goal
 
 pub lines-init : goal.lines-init
 lines-init g c = record {
-  told = ([], refl, λ given before so_far. rw (append-nil given) so_far);
+  told = ([], refl, λ first given before so_far. rw (append-nil given) so_far);
   size = refl;
   later = omega arith;
+  fits = c.requires.fits;
+  onward = onward_none _;
 }
 
 pub lines-preserved : goal.lines-preserved
@@ -23,28 +27,33 @@ lines-preserved g c =
       told = (
         so_far.told.0 ++ ended c.in-Some.line.now,
         piece_goes_on _ _ _ _ _ so_far.told.1 split,
-        λ given before reached. subst (λ (b : List ℕ). Reached c.args.hosts.now b before c.end_line.new.session (g.K.Sink.written c.end_line.new.sink))
+        λ first given before reached. subst (λ (b : List ℕ). Reached c.args.hosts.now first b before c.end_line.new.session (g.D.Disk.view c.end_line.new.disk).faults (g.K.Sink.written c.end_line.new.sink))
             (append_assoc given so_far.told.0 (ended c.in-Some.line.now))
-            (c.in_ok-end_line.ensures.told c.in-Some.ensures.found.0 (given ++ so_far.told.0) before (so_far.told.2 given before reached)),
+            (c.in_ok-end_line.ensures.told c.in-Some.ensures.found.0 first (given ++ so_far.told.0) before (so_far.told.2 first given before reached)),
       );
       size = (let sizes = simp length-append at (ap length split) in omega (arith, so_far.size, c.in_ok-end_line.ensures.size, sizes));
       later = omega (arith, so_far.later, c.in_ok-end_line.ensures.later);
+      fits = c.in_ok-end_line.ensures.fits;
+      onward = onward_joined _ _ _ so_far.onward c.in_ok-end_line.ensures.onward;
     }
 
-pub returns-in_err-end_line-clause-faulty : goal.returns-in_err-end_line-clause-faulty
-returns-in_err-end_line-clause-faulty g c = λ n is given before after reached.
+pub returns-in_err-end_line-clause-stops : goal.returns-in_err-end_line-clause-stops
+returns-in_err-end_line-clause-stops g c = λ stop is first given before after reached.
     let p = err_from_is_err_and c.from_residual.result c.from_residual.ensures.1 in
-    let told = handed_on c.end_line.result c.from_residual.result p.0 (Faulty n) (c.in_err-end_line.was ∙ ap Err (sym p.2)) p.1 is in
+    let told = handed_on c.end_line.result c.from_residual.result p.0 stop (c.in_err-end_line.was ∙ ap Err (sym p.2)) p.1 is in
     let so_far = c.lines.invariant.told in
     let found = c.in-Some.ensures.found in
-    restated _ _ _ before n _ (in_piece given c.args.piece.now so_far.0 c.lines.rest.now c.in-Some.line.now c.in-Some.after.now after so_far.1 found.1)
-    (c.end_line.ensures.faulty n told found.0 (given ++ so_far.0) before (c.in-Some.after.now ++ after) (so_far.2 given before reached))
+    left_as _ (up_to first _) _ _ before stop _ (in_piece given c.args.piece.now so_far.0 c.lines.rest.now c.in-Some.line.now c.in-Some.after.now after so_far.1 found.1)
+    (c.end_line.ensures.stops stop told found.0 first (given ++ so_far.0) before (c.in-Some.after.now ++ after) (so_far.2 first given before reached))
 
-pub returns-in_err-hold-clause-faulty : goal.returns-in_err-hold-clause-faulty
-returns-in_err-hold-clause-faulty g c = λ n is given before after reached.
+pub returns-in_err-hold-clause-stops : goal.returns-in_err-hold-clause-stops
+returns-in_err-hold-clause-stops g c = λ stop is first given before after reached.
     let p = err_from_is_err_and c.from_residual-in_err-hold.result c.from_residual-in_err-hold.ensures.1 in
-    let told = handed_on c.hold.result c.from_residual-in_err-hold.result p.0 (Faulty n) (c.in_err-hold.was ∙ ap Err (sym p.2)) p.1 is in
+    let told = handed_on c.hold.result c.from_residual-in_err-hold.result p.0 stop (c.in_err-hold.was ∙ ap Err (sym p.2)) p.1 is in
     let so_far = c.lines.invariant.told in
+    let so = so_far.2 first given before reached in
     let no_feed : HasNoLineFeed c.lines.rest.now = search rules in
-    restated _ _ _ before n _ (at_piece_end given c.args.piece.now so_far.0 c.lines.rest.now after so_far.1)
-    (held_past _ (given ++ so_far.0) before c.lines.rest.now after c.lines.session _ n (c.hold.ensures.past n told) no_feed (so_far.2 given before reached))
+    left_as _ (up_to first _) _ _ before stop _ (at_piece_end given c.args.piece.now so_far.0 c.lines.rest.now after so_far.1)
+    (leaves _ (up_to first _) _ before stop _
+    (λ n faulty. held_past _ first (given ++ so_far.0) before c.lines.rest.now after c.lines.session _ _ n (c.hold.ensures.past n (told ∙ ap Err faulty)) no_feed so)
+    (nothing_more _ first (given ++ so_far.0) _ before c.lines.session _ _ _ so (λ written told. told)))

@@ -1,4 +1,7 @@
 use Rattle.std.proofs.Common.{◌≡◌, ℕ, ◌+◌, ◌≤◌, List, ◌++◌, length}
+use Rattle.disk_trait.specs.Moments.{Onward}
+use Rattle.cluster_cli.specs.State.{State}
+use Rattle.cluster_cli.specs.Kept.{Fits}
 use Rattle.cluster_cli.specs.Progress.{Reached, taken_bytes}
 use Rattle.cluster_cli.proofs.script.take_piece.Given as goal
 
@@ -7,10 +10,13 @@ abbrev pub invariant-lines : goal.invariant-lines
 invariant-lines g l =
     let written = g.K.Sink.written in
     let faults = g.K.Sink.faults in
+    let view = g.D.Disk.view in
     record {
-      told : (front : List ℕ) × (l.fn.piece ≡ front ++ l.rest) × ((given before : List ℕ) → Reached l.hosts given before l.fn.session (written l.fn.sink) → Reached l.hosts (given ++ front) before l.session (written l.sink));
+      told : (front : List ℕ) × (l.fn.piece ≡ front ++ l.rest) × ((first : State) (given before : List ℕ) → Reached l.hosts first given before l.fn.session (view l.fn.disk).faults (written l.fn.sink) → Reached l.hosts first (given ++ front) before l.session (view l.disk).faults (written l.sink));
       size : taken_bytes l.session + length l.rest ≡ taken_bytes l.fn.session + length l.fn.piece;
       later : faults l.fn.sink ≤ faults l.sink;
+      fits : Fits l.session.cluster (view l.disk);
+      onward : Onward (view l.fn.disk) (view l.disk);
     }
 
 abbrev pub decreases-lines : goal.decreases-lines

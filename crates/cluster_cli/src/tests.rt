@@ -364,6 +364,43 @@ fn a_script_keeps_its_limits(rt: HostRuntime) {
     }
 }
 
+#[test]
+fn a_value_keeps_its_limit(rt: HostRuntime) {
+    let lines = "{\"do\":\"create\",\"host\":\"a\"}
+{\"do\":\"steps\",\"events\":[[\"put\",\"c\",\"a\",\"1\"]]}
+{\"do\":\"steps\",\"events\":[[\"put\",\"c\",\"b\",\"";
+    for (case, count, want) in [
+        (
+            "the longest value",
+            65_536,
+            (
+                0,
+                "{\"created\":\"a\",\"epoch\":1}
+{\"steps\":[{\"value\":null}]}
+{\"steps\":[{\"value\":null}]}
+",
+            ),
+        ),
+        (
+            "a value too long",
+            65_537,
+            (
+                2,
+                "{\"created\":\"a\",\"epoch\":1}
+{\"steps\":[{\"value\":null}]}
+{\"fault\":\"script\",\"line\":3}
+",
+            ),
+        ),
+    ] {
+        let mut script = followed(&rt, rt.alloc(), lines, b'x', count);
+        script.extend_from_slice(b"\"]]}\n").expect(&rt, "a script");
+        let (status, report) = run(&rt, rt.alloc(), &WORDS, script.as_slice(), WHOLE);
+        assert_eq!(rt; report.as_slice(), want.1.as_bytes(), "{case}");
+        assert_eq!(rt; status, want.0, "{case}");
+    }
+}
+
 // The run of the script is answered to its end; the disk that it leaves.
 fn expect_over(
     rt: &impl Abort,

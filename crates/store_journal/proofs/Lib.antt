@@ -3,6 +3,7 @@ pub mod TextOnce
 pub mod StandsLemmas
 pub mod FaultLemmas
 pub mod FaultBounds
+pub mod FrontLemmas
 pub mod ReadLemmas
 pub mod RowLemmas
 pub mod LoadLemmas

@@ -62,11 +62,11 @@ pub record Parts (header : Header) (groups : List (List Mutation)) (bytes : List
   pub place : length front ≡ end_of groups
   pub goes : (other : List ℕ) (more : List (List Mutation)) → Rows other more → IsText header (groups ++ more) (front ++ other)
 
-first_of_front : (x : List ℕ) → get_or x 0 0 ≡ get_or (take 41 x) 0 0
+pub first_of_front : (x : List ℕ) → get_or x 0 0 ≡ get_or (take 41 x) 0 0
 first_of_front [] = refl
 first_of_front (a ∷ x) = refl
 
-header_of_front : (x : List ℕ) → take 40 (drop 1 x) ≡ drop 1 (take 41 x)
+pub header_of_front : (x : List ℕ) → take 40 (drop 1 x) ≡ drop 1 (take 41 x)
 header_of_front [] = refl
 header_of_front (a ∷ x) = refl
 

@@ -1,5 +1,5 @@
 -- What a file that is read as a store of a partition is found to hold.
-use Rattle.std.specs.Prelude.{⊤, ◌≡◌, ◌≢◌, ℕ, ◌+◌, ◌≤◌, List, [], ◌∷◌, ◌++◌, length, take, drop, Option, Some}
+use Rattle.std.specs.Prelude.{⊤, ◌≡◌, ◌≢◌, ℕ, ◌+◌, ◌≤◌, List, [], ◌∷◌, ◌++◌, length, take, drop, Option, None, Some}
 use Rattle.std.specs.List.{flat_map}
 use Rattle.byte_fields.specs.Counted.{counted32_text}
 use Rattle.cache_key.specs.declared.request.Mutation.{Mutation}
@@ -8,12 +8,14 @@ use Rattle.disk_trait.specs.Calls.{Rose, Same}
 use Rattle.disk_trait.specs.Moments.{Throughout, Onward}
 use Rattle.disk_trait.specs.declared.DiskRefusal.{DiskRefusal}
 use Rattle.disk_trait.specs.declared.DiskRefusal.TheVariants as refusals
+use Rattle.record_form.specs.declared.header.Header.{Header}
 use Rattle.record_form.specs.HeaderText.{IsHeader, header_text}
+use Rattle.record_form.specs.HeaderFault.{header_fault}
 use Rattle.record_form.specs.GroupText.{IsGroup, group_text}
 use Rattle.seal_gate.specs.Seal.{IsSealed, IsSettled}
 use Rattle.store_ident.specs.declared.ident.StoreId.{StoreId}
 use Rattle.store_journal.specs.Text.{IsText, Records, end_of}
-use Rattle.store_journal.specs.Fault.{IsRowFault, IsDamagedAt}
+use Rattle.store_journal.specs.Fault.{placed, shifted, IsRowFault, IsDamagedAt}
 use Rattle.store_journal.specs.AtRest.{IsKeptIn, AtRest}
 use Rattle.store_journal.specs.declared.fault.LoadFault.{LoadFault}
 use Rattle.store_journal.specs.declared.fault.LoadFault.TheVariants.{NotSealed, Damaged, Failed, NoMemory}
@@ -96,3 +98,20 @@ pub record IsLoaded (old new : View) (partitions : ℕ) (store : Store) (mutatio
   pub joined : mutations ≡ flat_map (λ group. group) groups
   pub seen : Tells old → IsKeptIn store (record { id = store.id; partitions = partitions }) groups (old.seen store.file)
   pub at_rest : IsSettled old store.file → AtRest new store (record { id = store.id; partitions = partitions }) groups
+
+-- the store that the bytes' header names: none where they aren't sealed
+abbrev pub IsIdentified : List ℕ → Option StoreId → Type 0
+IsIdentified bytes None = IsSealed bytes → ⊥
+IsIdentified bytes (Some id) = IsSealed bytes × (header : Header) × IsHeader header × (take 40 (drop 1 bytes) ≡ header_text header) × (header.id ≡ id)
+
+-- the bytes are sealed, and what stands behind the seal first leaves the form of a header at this place
+pub record IsUnidentifiedAt (bytes : List ℕ) (place : ℕ) : Type 0 where
+  pub sealed : IsSealed bytes
+  pub first : shifted 1 (placed (header_fault (take 40 (drop 1 bytes)))) ≡ Some place
+
+-- the fault is that of the header behind the seal
+abbrev pub IsHeaderFault : List ℕ → LoadFault → Type 0
+IsHeaderFault bytes (Damaged at) = IsUnidentifiedAt bytes at
+IsHeaderFault bytes NotSealed = ⊥
+IsHeaderFault bytes NoMemory = ⊥
+IsHeaderFault bytes Failed = ⊥

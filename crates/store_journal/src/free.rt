@@ -24,6 +24,7 @@ pub fn clear<D: Disk>(disk: &mut D, file: u8) -> Result<(), DiskRefusal>
     ensures cause { Cause (D.view disk.old) (D.view disk.new) result }
 
     ensures unsealed { Tells (D.view disk.old) → IsUnsealed ((D.view disk.old).seen file) → Same (D.view disk.old) (D.view disk.new) }
+    ensures unsealed_moments { Tells (D.view disk.old) → IsUnsealed ((D.view disk.old).seen file) → Throughout (D.view disk.old) (D.view disk.new) (D.view disk.old).images }
     ensures others { (f : ℕ) → f ≢ file → (D.view disk.new).seen f ≡ (D.view disk.old).seen f }
     ensures tells { Tells (D.view disk.old) → Tells (D.view disk.new) }
 {

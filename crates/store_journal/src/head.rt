@@ -45,7 +45,7 @@ fn header_place(bytes: &[u8]) -> Option<u64>
 }
 
 /// The header behind the seal.
-fn header_of(bytes: &[u8]) -> Result<Header, RecordFault>
+pub(crate) fn header_of(bytes: &[u8]) -> Result<Header, RecordFault>
     requires { 41 ≤ length bytes.now }
     ensures { MatchResult result
         (λ header. (header_fault (take 40 (drop 1 bytes.now)) ≡ None) × IsHeader header × (take 40 (drop 1 bytes.now) ≡ header_text header))

@@ -45,7 +45,7 @@ pub(crate) fn judge(
 }
 
 /// Whether the bytes have a seal, and a header behind it.
-fn has_seal(bytes: &[u8]) -> bool
+pub(crate) fn has_seal(bytes: &[u8]) -> bool
     ensures { IsTrue result ↔ IsSealed bytes.now }
 {
     bytes.len() >= 41 && bytes[0] != 0

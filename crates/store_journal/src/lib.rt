@@ -4,7 +4,7 @@
 //! Keeps: at every moment of `append` each crash image has the old groups, or the old groups and the whole new one; at
 //! every moment of `create` the file isn't sealed, is as it was but for its first byte, or is the whole empty store.
 //! `load` writes nothing, and answers the groups that the bytes have (`IsLoaded`, specs/Loading.antt), or where they
-//! first leave the form.
+//! first leave the form; `identify` does so for the header alone.
 //! Hides: in which order an append and a creation write, that the gate of a new record opens last, and that a file is
 //! read whole, in pieces, before it is judged.
 //! Words for the layers above: what the files of a partition stand for together (`StandsFor` and `Survives`,
@@ -16,6 +16,7 @@
 mod create;
 mod fault;
 mod free;
+mod front;
 mod head;
 mod judge;
 mod load;
@@ -27,5 +28,6 @@ mod tests;
 
 pub use fault::LoadFault;
 pub use free::clear;
+pub use front::identify;
 pub use load::Loaded;
 pub use store::Store;

@@ -12,8 +12,8 @@ use std::alloc::Global;
 /// The most bytes of one read.
 const PIECE: usize = 65_536;
 
-#[tactic(auto, using(crate::proofs::ReadLemmas::reads_one, crate::proofs::ReadLemmas::reads_on, crate::proofs::ReadLemmas::read_fails, crate::proofs::ReadLemmas::later_fails, crate::proofs::ReadLemmas::memory_fails, crate::proofs::ReadLemmas::piece_more, crate::proofs::ReadLemmas::all_read, crate::proofs::ReadLemmas::none_told))]
 /// Reads the file whole, in pieces.
+#[tactic(auto, using(crate::proofs::ReadLemmas::reads_one, crate::proofs::ReadLemmas::reads_on, crate::proofs::ReadLemmas::read_fails, crate::proofs::ReadLemmas::later_fails, crate::proofs::ReadLemmas::memory_fails, crate::proofs::ReadLemmas::piece_more, crate::proofs::ReadLemmas::all_read, crate::proofs::ReadLemmas::none_told))]
 pub(crate) fn read_all<D: Disk>(alloc: Global, disk: &mut D, file: u8) -> Result<Vec<u8>, LoadFault>
     requires file { file ≤ 10 }
     ensures told { IfOk result (λ bytes. Tells (D.view disk.old) → bytes.items ≡ (D.view disk.old).seen file) }

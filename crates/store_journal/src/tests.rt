@@ -1,5 +1,5 @@
 // A store over a host that keeps one file in memory.
-use crate::{LoadFault, Loaded, Store, clear};
+use crate::{LoadFault, Loaded, Store, clear, identify};
 use cache_key::{CacheName, Key, Mutation, Value};
 use disk_trait::{Disk, DiskRefusal};
 use record_form::{Group, Header, encode_tail};
@@ -226,5 +226,20 @@ fn a_file_that_is_cut_is_refused_at_its_end(rt: HostRuntime) -> Result<(), Fail>
     }
     let fault = load_of(rt.alloc(), WHOLE, 1, 2)?.err();
     assert_eq!(rt; fault, Some(LoadFault::Damaged { at: 7 }));
+    Ok(())
+}
+
+#[test]
+fn a_file_names_its_store(rt: HostRuntime) -> Result<(), Fail> {
+    for (case, place, byte, want) in [
+        ("no seal", 0, 0, Ok(None)),
+        ("another magic", 4, b'2', Err(LoadFault::Damaged { at: 1 })),
+        ("no closed gate", 58, 1, Ok(Some(FIRST.id))),
+    ] {
+        let mut bytes = WHOLE.to_vec(rt.alloc())?;
+        bytes[place] = byte;
+        let mut disk = UntoldDisk::over(OneFile::starting(rt.alloc(), bytes.as_slice())?);
+        assert_eq!(rt; identify(&mut disk, 0), want, "{case}");
+    }
     Ok(())
 }

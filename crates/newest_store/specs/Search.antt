@@ -1,0 +1,55 @@
+-- What is found of the two files before anything is erased.
+use Rattle.std.specs.Prelude.{⊤, ◌≡◌, ℕ, ◌<◌, ◌≤◌, List}
+use Rattle.cache_key.specs.declared.request.Mutation.{Mutation}
+use Rattle.disk_trait.specs.View.{View, Tells}
+use Rattle.disk_trait.specs.Calls.{Rose}
+use Rattle.disk_trait.specs.declared.DiskRefusal.{DiskRefusal}
+use Rattle.disk_trait.specs.declared.DiskRefusal.TheVariants as refusals
+use Rattle.store_journal.specs.Created.{IsUnsealed}
+use Rattle.store_journal.specs.Loading.{IsLoaded, IsUnidentifiedAt}
+use Rattle.store_journal.specs.declared.fault.LoadFault.{LoadFault}
+use Rattle.store_journal.specs.declared.fault.LoadFault.TheVariants as faults
+use Rattle.store_journal.specs.declared.store.Store.{Store}
+use Rattle.newest_store.specs.Newest.{IsHeaded, IsNewest, IsDamagedIn}
+use Rattle.newest_store.specs.declared.fault.NewestFault.{NewestFault}
+use Rattle.newest_store.specs.declared.fault.NewestFault.TheVariants.{NoStore, Damaged, Failed, NoMemory}
+
+-- the fault of a file, as it is answered
+abbrev pub fault_in : ℕ → LoadFault → NewestFault
+fault_in file faults.NotSealed = NoStore
+fault_in file (faults.Damaged at) = Damaged file at
+fault_in file faults.Failed = Failed
+fault_in file faults.NoMemory = NoMemory
+
+-- a refusal of the disk, as it is answered
+abbrev pub disk_fault : DiskRefusal → NewestFault
+disk_fault refusals.Failed = Failed
+disk_fault refusals.NoMemory = NoMemory
+
+-- why a file's header wasn't read as one
+abbrev pub IsFileFault : View → View → ℕ → NewestFault → Type 0
+IsFileFault old new file NoStore = ⊥
+IsFileFault old new file (Damaged other place) = (other ≡ file) × (Tells old → IsUnidentifiedAt (old.seen file) place)
+IsFileFault old new file Failed = Rose old.faults new.faults
+IsFileFault old new file NoMemory = old.spares → ⊥
+
+-- why no file is the newest
+abbrev pub IsSearchFault : View → View → NewestFault → Type 0
+IsSearchFault old new NoStore = Tells old → (file : ℕ) → file ≤ 1 → IsUnsealed (old.seen file)
+IsSearchFault old new (Damaged file place) = (file ≤ 1) × (Tells old → IsUnidentifiedAt (old.seen file) place × ((f : ℕ) → f < file → IsHeaded (old.seen f)))
+IsSearchFault old new Failed = Rose old.faults new.faults
+IsSearchFault old new NoMemory = old.spares → ⊥
+
+-- why no store was loaded
+abbrev pub IsFoundFault : View → View → ℕ → ℕ → NewestFault → Type 0
+IsFoundFault old new partition partitions NoStore = Tells old → (file : ℕ) → file ≤ 1 → IsUnsealed (old.seen file)
+IsFoundFault old new partition partitions (Damaged file place) = Tells old → IsDamagedIn old.seen partition partitions file place
+IsFoundFault old new partition partitions Failed = Rose old.faults new.faults
+IsFoundFault old new partition partitions NoMemory = ⊤
+
+-- the newest store of the two files was loaded, as one of this partition
+pub record IsNewestLoaded (old new : View) (partition partitions : ℕ) (store : Store) (mutations : List Mutation) : Type 0 where
+  pub loaded : IsLoaded old new partitions store mutations
+  pub of_partition : store.id.partition ≡ partition
+  pub one_of_two : store.file ≤ 1
+  pub newest : Tells old → IsNewest old.seen store.file

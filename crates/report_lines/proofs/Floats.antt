@@ -3,7 +3,7 @@ use Rattle.std.proofs.Common.{◌≡◌, List, [], ◌∷◌, false, Some, None,
 use Rattle.serde_json.specs.Written.{has_float, items_have_float, members_have_float}
 use Rattle.cache_model.specs.Caches.{Pairs, Caches}
 use Rattle.script_lines.specs.declared.answer.Answer.{Answer}
-use Rattle.script_lines.specs.declared.answer.Answer.TheVariants.{Created, Dumped, Stepped, Refused}
+use Rattle.script_lines.specs.declared.answer.Answer.TheVariants.{Created, Dumped, Stepped, Refused, Stopped, Recovered}
 use Rattle.script_lines.specs.declared.answer.Outcome.{Outcome}
 use Rattle.script_lines.specs.declared.answer.Outcome.TheVariants as events
 use Rattle.script_lines.specs.declared.answer.Refusal.{Refusal}
@@ -30,6 +30,8 @@ has_float-refusal_data refusals.Closed = refl
 has_float-refusal_data refusals.Open = refl
 has_float-refusal_data (refusals.NotMember host) = refl
 has_float-refusal_data (refusals.Fault host) = refl
+has_float-refusal_data refusals.NotCreated = refl
+has_float-refusal_data (refusals.Damaged host partition file at) = refl
 
 items_have_float-outcomes_data : (outcomes : List Outcome) → items_have_float (outcomes_data outcomes) ≡ false
 items_have_float-outcomes_data [] = refl
@@ -42,6 +44,8 @@ has_float-answer_data (Created host) = refl
 has_float-answer_data (Dumped partitions) = rw (items_have_float-dumps_data partitions)
 has_float-answer_data (Stepped outcomes) = rw (items_have_float-outcomes_data outcomes)
 has_float-answer_data (Refused refusal) = has_float-refusal_data refusal
+has_float-answer_data Stopped = refl
+has_float-answer_data (Recovered epoch host opened) = refl
 
 pub has_float-fault_data : (fault : Fault) → has_float (fault_data fault) ≡ false
 has_float-fault_data Words = refl

@@ -1,11 +1,11 @@
 -- The line of a report for each answer: compact JSON, the members of each object in byte order, and a line feed. Texts are their bytes.
-use Rattle.std.specs.Prelude.{ℕ, List, [], ◌∷◌, ◌++◌, Option, Some, None, codes}
-use Rattle.serde_json.specs.Data.{Data, null, number, unsigned, string, array, object, Items, no_items, item, Members, no_members, member}
+use Rattle.std.specs.Prelude.{ℕ, true, List, [], ◌∷◌, ◌++◌, Option, Some, None, codes}
+use Rattle.serde_json.specs.Data.{Data, null, boolean, number, unsigned, string, array, object, Items, no_items, item, Members, no_members, member}
 use Rattle.serde_json.specs.Written.{compact_text}
 use Rattle.cache_model.specs.Caches.{Pairs, Caches}
 use Rattle.store_ident.specs.Ident.{ident_text}
 use Rattle.script_lines.specs.declared.answer.Answer.{Answer}
-use Rattle.script_lines.specs.declared.answer.Answer.TheVariants.{Created, Dumped, Stepped, Refused}
+use Rattle.script_lines.specs.declared.answer.Answer.TheVariants.{Created, Dumped, Stepped, Refused, Stopped, Recovered}
 use Rattle.script_lines.specs.declared.answer.Outcome.{Outcome}
 use Rattle.script_lines.specs.declared.answer.Outcome.TheVariants as events
 use Rattle.script_lines.specs.declared.answer.Refusal.{Refusal}
@@ -44,11 +44,21 @@ dumps_data (dump ∷ dumps) = item (dump_data dump) (dumps_data dumps)
 abbrev pub host_refusal : List ℕ → List ℕ → Data
 host_refusal name host = object (member (codes "host") (string host) (member (codes "refused") (string name) no_members))
 
+-- a store of the host that leaves its form
+abbrev pub damage_data : List ℕ → ℕ → ℕ → ℕ → Data
+damage_data host partition file at = object (member (codes "at") (number (unsigned at))
+    (member (codes "file") (number (unsigned file))
+    (member (codes "host") (string host)
+    (member (codes "partition") (number (unsigned partition))
+    (member (codes "refused") (string (codes "damaged")) no_members)))))
+
 abbrev pub refusal_data : Refusal → Data
 refusal_data refusals.Closed = single (codes "refused") (string (codes "closed"))
 refusal_data refusals.Open = single (codes "refused") (string (codes "open"))
 refusal_data (refusals.NotMember host) = host_refusal (codes "notMember") host
 refusal_data (refusals.Fault host) = host_refusal (codes "fault") host
+refusal_data refusals.NotCreated = single (codes "refused") (string (codes "notCreated"))
+refusal_data (refusals.Damaged host partition file at) = damage_data host partition file at
 
 -- ---- outcomes of events
 
@@ -66,12 +76,20 @@ outcomes_data (outcome ∷ outcomes) = item (outcome_data outcome) (outcomes_dat
 
 -- ---- answers of commands
 
+-- a cluster that was opened, with one host
+abbrev pub recovered_data : ℕ → List ℕ → ℕ → Data
+recovered_data epoch host opened = object (member (codes "epoch") (number (unsigned epoch))
+    (member (codes "hosts") (array (item (string host) no_items))
+    (member (codes "opened") (number (unsigned opened)) no_members)))
+
 -- a cluster that was just made has epoch 1
 abbrev pub answer_data : Answer → Data
 answer_data (Created host) = object (member (codes "created") (string host) (member (codes "epoch") (number (unsigned 1)) no_members))
 answer_data (Dumped partitions) = single (codes "dump") (array (dumps_data partitions))
 answer_data (Stepped outcomes) = single (codes "steps") (array (outcomes_data outcomes))
 answer_data (Refused refusal) = refusal_data refusal
+answer_data Stopped = single (codes "stopped") (boolean true)
+answer_data (Recovered epoch host opened) = recovered_data epoch host opened
 
 -- the line of an answer
 abbrev pub answer_line : Answer → List ℕ

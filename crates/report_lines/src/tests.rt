@@ -110,6 +110,13 @@ fn answers_with_no_list_have_their_lines(rt: HostRuntime) -> Result<(), Fail> {
             "{\"host\":\"a\",\"refused\":\"fault\"}\n",
         ),
         (
+            Answer::Refused {
+                refusal: Refusal::NotCreated,
+            },
+            "{\"refused\":\"notCreated\"}\n",
+        ),
+        (Answer::Stopped, "{\"stopped\":true}\n"),
+        (
             Answer::Dumped {
                 partitions: PartitionDumps::of(Vec::new(alloc)),
             },
@@ -117,6 +124,63 @@ fn answers_with_no_list_have_their_lines(rt: HostRuntime) -> Result<(), Fail> {
         ),
     ] {
         let line = print(alloc, &answer)?;
+        assert!(rt; line.as_slice() == want.as_bytes(), "{want}");
+    }
+    Ok(())
+}
+
+#[test]
+fn recoveries_have_their_lines(rt: HostRuntime) -> Result<(), Fail> {
+    let alloc = rt.alloc();
+    for (epoch, name, opened, want) in [
+        (1, "a", 1, "{\"epoch\":1,\"hosts\":[\"a\"],\"opened\":1}\n"),
+        (
+            u64::MAX,
+            "B-1",
+            0,
+            "{\"epoch\":18446744073709551615,\"hosts\":[\"B-1\"],\"opened\":0}\n",
+        ),
+    ] {
+        let host = HostName::of(alloc, name)?;
+        let line = print(
+            alloc,
+            &Answer::Recovered {
+                epoch,
+                host,
+                opened,
+            },
+        )?;
+        assert!(rt; line.as_slice() == want.as_bytes(), "{want}");
+    }
+    Ok(())
+}
+
+#[test]
+fn damaged_stores_have_their_lines(rt: HostRuntime) -> Result<(), Fail> {
+    let alloc = rt.alloc();
+    for (name, partition, file, at, want) in [
+        (
+            "a",
+            0,
+            0,
+            58,
+            "{\"at\":58,\"file\":0,\"host\":\"a\",\"partition\":0,\"refused\":\"damaged\"}\n",
+        ),
+        (
+            "B-1",
+            u16::MAX,
+            1,
+            u64::MAX,
+            "{\"at\":18446744073709551615,\"file\":1,\"host\":\"B-1\",\"partition\":65535,\"refused\":\"damaged\"}\n",
+        ),
+    ] {
+        let refusal = Refusal::Damaged {
+            host: HostName::of(alloc, name)?,
+            partition,
+            file,
+            at,
+        };
+        let line = print(alloc, &Answer::Refused { refusal })?;
         assert!(rt; line.as_slice() == want.as_bytes(), "{want}");
     }
     Ok(())

@@ -30,6 +30,12 @@ pub(crate) fn answer_value(alloc: Global, answer: &Answer) -> Result<Value, Allo
             json!(in alloc; {"steps": steps})
         }
         Answer::Refused { refusal } => refusal_value(alloc, refusal),
+        Answer::Stopped => json!(in alloc; {"stopped": true}),
+        Answer::Recovered {
+            epoch,
+            host,
+            opened,
+        } => json!(in alloc; {"epoch": *epoch, "hosts": [host.text()], "opened": *opened}),
     }
 }
 
@@ -95,6 +101,19 @@ fn refusal_value(alloc: Global, refusal: &Refusal) -> Result<Value, AllocError>
         Refusal::Open => json!(in alloc; {"refused": "open"}),
         Refusal::NotMember { host } => host_refusal_value(alloc, "notMember", host),
         Refusal::Fault { host } => host_refusal_value(alloc, "fault", host),
+        Refusal::NotCreated => json!(in alloc; {"refused": "notCreated"}),
+        Refusal::Damaged {
+            host,
+            partition,
+            file,
+            at,
+        } => json!(in alloc; {
+            "at": *at,
+            "file": *file,
+            "host": host.text(),
+            "partition": *partition,
+            "refused": "damaged"
+        }),
     }
 }
 

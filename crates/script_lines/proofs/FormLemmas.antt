@@ -1,8 +1,9 @@
 -- Laws of the forms: a value is at most one command's.
-use Rattle.std.proofs.Common.{◌≡◌, ℕ, List, [], ◌∷◌, Some, refl, sym, ap, ◌∙◌}
+use Rattle.std.proofs.Common.{◌≡◌, ℕ, List, [], ◌∷◌, Some, refl, sym, ap, ◌∙◌, arith}
+use Rattle.serde_json.specs.Data.{Data, string, object, member}
 use Rattle.script_lines.specs.Form.{event_data, events_data, command_data, IsLineOf}
 use Rattle.script_lines.specs.declared.command.Command.{Command}
-use Rattle.script_lines.specs.declared.command.Command.TheVariants.{Create, Dump, Steps}
+use Rattle.script_lines.specs.declared.command.Command.TheVariants.{Create, Dump, Steps, Stop, Recover}
 use Rattle.script_lines.specs.declared.command.Event.{Event}
 use Rattle.script_lines.specs.declared.command.Event.TheVariants.{Get, Put}
 
@@ -21,16 +22,38 @@ events_data-injective (a ∷ xs) (b ∷ ys) e =
     let tail : xs ≡ ys = events_data-injective xs ys (cc) in
     cc
 
+-- the first letter of a command's name
+abbrev first_letter : Data → ℕ
+first_letter (object (member name (string (letter ∷ word)) ms)) = letter
+first_letter d = 0
+
+-- a command is known from another by its name
 pub command_data-injective : (a b : Command) → command_data a ≡ command_data b → a ≡ b
 command_data-injective (Create h) (Create i) e = cc
 command_data-injective (Create h) Dump e = cc
 command_data-injective (Create h) (Steps es) e = cc
+command_data-injective (Create h) Stop e = cc
+command_data-injective (Create h) (Recover i) e = cc
 command_data-injective Dump (Create i) e = cc
 command_data-injective Dump Dump e = refl
 command_data-injective Dump (Steps es) e = cc
+command_data-injective Dump Stop e = let letters : 100 ≡ 115 = ap first_letter e in absurd (omega (arith, letters))
+command_data-injective Dump (Recover i) e = cc
 command_data-injective (Steps es) (Create i) e = cc
 command_data-injective (Steps es) Dump e = cc
 command_data-injective (Steps es) (Steps fs) e = ap Steps (events_data-injective es fs (cc))
+command_data-injective (Steps es) Stop e = cc
+command_data-injective (Steps es) (Recover i) e = cc
+command_data-injective Stop (Create i) e = cc
+command_data-injective Stop Dump e = let letters : 115 ≡ 100 = ap first_letter e in absurd (omega (arith, letters))
+command_data-injective Stop (Steps fs) e = cc
+command_data-injective Stop Stop e = refl
+command_data-injective Stop (Recover i) e = cc
+command_data-injective (Recover h) (Create i) e = cc
+command_data-injective (Recover h) Dump e = cc
+command_data-injective (Recover h) (Steps fs) e = cc
+command_data-injective (Recover h) Stop e = cc
+command_data-injective (Recover h) (Recover i) e = cc
 
 -- the line is at most one command's
 pub one_of_a_line : (line : List ℕ) (a b : Command) → IsLineOf line a → IsLineOf line b → a ≡ b

@@ -1,5 +1,5 @@
 -- The members of an object and the items of a list, known one by one, make up the whole.
-use Rattle.std.proofs.Common.{◌≡◌, ℕ, ◌⊎◌, List, [], ◌∷◌, length, get_or, Some, Option, Ordering, Less, Equal, Greater, string_bytes, string_cmp, nat_cmp, is_eq, refl, sym, ap, ◌∙◌, subst, inl, inr, arith}
+use Rattle.std.proofs.Common.{◌≡◌, ℕ, ◌⊎◌, List, [], ◌∷◌, length, get_or, codes, Some, Option, Ordering, Less, Equal, Greater, string_bytes, string_cmp, nat_cmp, is_eq, refl, sym, ap, ◌∙◌, subst, inl, inr, arith}
 use Rattle.std.proofs.lemmas.Cmp.{nat_list_cmp_total, tied_itself}
 use Rattle.std.proofs.lemmas.Map.Text.{is_eq-slice_cmp}
 use Rattle.std.proofs.lemmas.Slice.Eq.{bytes_eq-Decides}
@@ -14,7 +14,7 @@ use Rattle.serde_json.specs.Events.{members_len}
 use Rattle.serde_json.specs.View.{view, items_view, members_view}
 use Rattle.serde_json.specs.declared.value.Value.{Value}
 use Rattle.serde_json.proofs.Views.{Entry, members_len-members_view}
-use Rattle.script_lines.specs.Reading.{list_of_three, list_of_four, object_of_two, member_count_of, IsBefore, AreInOrder, IsInOrder}
+use Rattle.script_lines.specs.Reading.{list_of_one, list_of_three, list_of_four, object_of_two, member_count_of, IsBefore, AreInOrder, IsInOrder}
 
 -- ---- objects
 
@@ -96,7 +96,7 @@ two_of_members k l a b (member m d (member n e no_members)) above count order at
 two_of_members k l a b (member m d (member n e (member o f ms))) above count order at_k at_l = absurd (omega arith)
 
 -- an object of one member is known by it
-pub one_member : (k : List ℕ) (a d : Data) → member_count_of d ≡ 1 → get k d ≡ Some a → d ≡ object (member k a no_members)
+one_member : (k : List ℕ) (a d : Data) → member_count_of d ≡ 1 → get k d ≡ Some a → d ≡ object (member k a no_members)
 one_member k a null count is = cc
 one_member k a (boolean b) count is = cc
 one_member k a (number n) count is = cc
@@ -105,13 +105,25 @@ one_member k a (array ds) count is = cc
 one_member k a (object ms) count is = ap object (one_of_members k a ms count is)
 
 -- an object of two members is known by them
-pub two_members : (k l : List ℕ) (a b d : Data) → slice_cmp nat_cmp k l ≡ Less → member_count_of d ≡ 2 → IsInOrder d → get k d ≡ Some a → get l d ≡ Some b → d ≡ object_of_two k a l b
+two_members : (k l : List ℕ) (a b d : Data) → slice_cmp nat_cmp k l ≡ Less → member_count_of d ≡ 2 → IsInOrder d → get k d ≡ Some a → get l d ≡ Some b → d ≡ object_of_two k a l b
 two_members k l a b null above count order at_k at_l = cc
 two_members k l a b (boolean x) above count order at_k at_l = cc
 two_members k l a b (number n) above count order at_k at_l = cc
 two_members k l a b (string s) above count order at_k at_l = cc
 two_members k l a b (array ds) above count order at_k at_l = cc
 two_members k l a b (object ms) above count order at_k at_l = ap object (two_of_members k l a b ms above count order at_k at_l)
+
+-- an object that has nothing but a command's name
+pub one_named : (d : Data) (found word : List ℕ) (count : ℕ) → get (codes "do") d ≡ Some (string found) → found ≡ word → count ≡ member_count_of d → count ≡ 1
+    → d ≡ object (member (codes "do") (string word) no_members)
+one_named d found word count at_do is counted one =
+    one_member (codes "do") (string word) d (sym counted ∙ one) (at_do ∙ ap (λ text. Some (string text)) is)
+
+-- an object that has a command's name, and one member behind it
+pub two_named : (d : Data) (found word name : List ℕ) (a : Data) (count : ℕ) → get (codes "do") d ≡ Some (string found) → found ≡ word → count ≡ member_count_of d → count ≡ 2 → IsInOrder d
+    → slice_cmp nat_cmp (codes "do") name ≡ Less → get name d ≡ Some a → d ≡ object_of_two (codes "do") (string word) name a
+two_named d found word name a count at_do is counted two order above at_name =
+    two_members (codes "do") name (string word) a d above (sym counted ∙ two) order (at_do ∙ ap (λ text. Some (string text)) is) at_name
 
 -- ---- lists
 
@@ -122,6 +134,15 @@ as_array-array (number n) ds e = cc
 as_array-array (string s) ds e = cc
 as_array-array (array es) ds e = cc
 as_array-array (object ms) ds e = cc
+
+not_one_item : (vs : List Value) (a : Data) → (length vs ≡ 1 → ⊥) → array (items_view vs) ≡ list_of_one a → ⊥
+not_one_item [] a many is = cc
+not_one_item (x ∷ []) a many is = many refl
+not_one_item (x ∷ y ∷ vs) a many is = cc
+
+-- where there isn't one item, there is no list of one
+pub not_of_one : (d : Data) (vs : List Value) (a : Data) → d ≡ array (items_view vs) → (length vs ≡ 1 → ⊥) → d ≡ list_of_one a → ⊥
+not_of_one d vs a there many is = not_one_item vs a many (sym there ∙ is)
 
 -- a list of three is known by its items
 pub three_items : (vs : List Value) (a b c : Value) → length vs ≡ 3 → a ≡ get_or vs 0 a → b ≡ get_or vs 1 b → c ≡ get_or vs 2 c

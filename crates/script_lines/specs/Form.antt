@@ -6,7 +6,7 @@ use Rattle.serde_json.specs.Data.{Data, string, array, object, Items, no_items, 
 use Rattle.serde_json.specs.Read.{read}
 use Rattle.cache_key.specs.Names.{IsName, IsKey, IsValue}
 use Rattle.script_lines.specs.declared.command.Command.{Command}
-use Rattle.script_lines.specs.declared.command.Command.TheVariants.{Create, Dump, Steps}
+use Rattle.script_lines.specs.declared.command.Command.TheVariants.{Create, Dump, Steps, Stop, Recover}
 use Rattle.script_lines.specs.declared.command.Event.{Event}
 use Rattle.script_lines.specs.declared.command.Event.TheVariants.{Get, Put}
 
@@ -24,6 +24,8 @@ abbrev pub command_data : Command → Data
 command_data (Create host) = object (member (codes "do") (string (codes "create")) (member (codes "host") (string host) no_members))
 command_data Dump = object (member (codes "do") (string (codes "dump")) no_members)
 command_data (Steps events) = object (member (codes "do") (string (codes "steps")) (member (codes "events") (array (events_data events)) no_members))
+command_data Stop = object (member (codes "do") (string (codes "stop")) no_members)
+command_data (Recover host) = object (member (codes "do") (string (codes "recover")) (member (codes "hosts") (array (item (string host) no_items)) no_members))
 
 -- the names, keys and values of an event keep their limits
 abbrev pub EventKeepsLimits : Event → Type 0
@@ -34,6 +36,8 @@ abbrev pub KeepsLimits : Command → Type 0
 KeepsLimits (Create host) = IsName host
 KeepsLimits Dump = Unit {0}
 KeepsLimits (Steps events) = AllByRecursion EventKeepsLimits events
+KeepsLimits Stop = Unit {0}
+KeepsLimits (Recover host) = IsName host
 
 -- the line is UTF-8 and JSON, and its value is that of the command
 pub record IsLineOf (line : List ℕ) (command : Command) : Type 0 where

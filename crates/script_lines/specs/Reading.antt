@@ -6,11 +6,28 @@ use Rattle.std.specs.declared.cmp.Ordering.TheVariants.{Less}
 use Rattle.std.specs.List.{AllByRecursion}
 use Rattle.serde_json.specs.Data.{Data, null, boolean, number, string, array, object, Items, no_items, item, Members, no_members, member}
 use Rattle.serde_json.specs.Events.{members_len}
+use Rattle.cache_key.specs.Names.{IsName}
 use Rattle.script_lines.specs.Form.{event_data, events_data, command_data, EventKeepsLimits, KeepsLimits}
 use Rattle.script_lines.specs.declared.command.Command.{Command}
 use Rattle.script_lines.specs.declared.command.Event.{Event}
 use Rattle.script_lines.specs.declared.fault.LineFault.{LineFault}
 use Rattle.script_lines.specs.declared.fault.LineFault.TheVariants.{Form, NoMemory}
+
+-- ---- shapes
+
+abbrev pub list_of_one : Data → Data
+list_of_one a = array (item a no_items)
+
+abbrev pub list_of_three : Data → Data → Data → Data
+list_of_three a b c = array (item a (item b (item c no_items)))
+
+abbrev pub list_of_four : Data → Data → Data → Data → Data
+list_of_four a b c d = array (item a (item b (item c (item d no_items))))
+
+abbrev pub object_of_two : List ℕ → Data → List ℕ → Data → Data
+object_of_two first a second b = object (member first a (member second b no_members))
+
+-- ---- what is read
 
 -- what is read is so, and where the form is refused nothing is so
 abbrev pub Reads : {X : Type 0} → (X → Type 0) → Result X LineFault → Type 0
@@ -22,6 +39,11 @@ Reads IsSo (Err NoMemory) = Unit {0}
 pub record IsTextOf (KeepsItsLimits : List ℕ → Type 0) (d : Data) (text : List ℕ) : Type 0 where
   pub is : d ≡ string text
   pub limits : KeepsItsLimits text
+
+-- the list of this one host stands there
+pub record IsOnlyHostOf (d : Data) (host : List ℕ) : Type 0 where
+  pub is : d ≡ list_of_one (string host)
+  pub limits : IsName host
 
 pub record IsEventOf (d : Data) (event : Event) : Type 0 where
   pub is : d ≡ event_data event
@@ -40,16 +62,7 @@ pub record IsCommandOf (d : Data) (command : Command) : Type 0 where
   pub is : d ≡ command_data command
   pub limits : KeepsLimits command
 
--- ---- shapes
-
-abbrev pub list_of_three : Data → Data → Data → Data
-list_of_three a b c = array (item a (item b (item c no_items)))
-
-abbrev pub list_of_four : Data → Data → Data → Data → Data
-list_of_four a b c d = array (item a (item b (item c (item d no_items))))
-
-abbrev pub object_of_two : List ℕ → Data → List ℕ → Data → Data
-object_of_two first a second b = object (member first a (member second b no_members))
+-- ---- members of an object
 
 -- the number of members of an object, none of what is no object
 abbrev pub member_count_of : Data → ℕ

@@ -10,13 +10,29 @@ use store_ident::StoreId;
 #[derive(Drop)]
 pub enum Answer {
     /// An empty cluster was made, whose one member is the host.
-    Created { host: HostName },
+    Created {
+        host: HostName,
+    },
     /// The contents of each partition that has a cache, by rising number.
-    Dumped { partitions: PartitionDumps },
+    Dumped {
+        partitions: PartitionDumps,
+    },
     /// What each event came to, in their order.
-    Stepped { outcomes: Outcomes },
+    Stepped {
+        outcomes: Outcomes,
+    },
     /// The command wasn't done.
-    Refused { refusal: Refusal },
+    Refused {
+        refusal: Refusal,
+    },
+    /// The cluster was closed.
+    Stopped,
+    /// The cluster was opened at this epoch, with this one host and so many partitions.
+    Recovered {
+        epoch: u64,
+        host: HostName,
+        opened: u16,
+    },
 }
 
 /// What an event came to.
@@ -36,9 +52,22 @@ pub enum Refusal {
     /// A cluster is open already.
     Open,
     /// The host isn't one of the site.
-    NotMember { host: HostName },
+    NotMember {
+        host: HostName,
+    },
     /// A disk of this host failed.
-    Fault { host: HostName },
+    Fault {
+        host: HostName,
+    },
+    /// The disks have no cluster.
+    NotCreated,
+    /// The store of this partition in this file of the host first leaves its form at this place, from 0.
+    Damaged {
+        host: HostName,
+        partition: u16,
+        file: u8,
+        at: u64,
+    },
 }
 
 /// What one partition has.

@@ -14,6 +14,10 @@ pub enum Command {
     Dump,
     /// Carries out events, one after the other.
     Steps { events: Events },
+    /// Closes the cluster, as where its process ends: what memory has is gone.
+    Stop,
+    /// Opens the cluster that the disks of the host have.
+    Recover { host: HostName },
 }
 
 /// One step of a script.

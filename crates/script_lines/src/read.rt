@@ -10,7 +10,7 @@ ghost use Rattle.script_lines.specs.declared.command.Command.{Command};
 use crate::command::Command;
 use crate::events::events_of;
 use crate::fault::LineFault;
-use crate::texts::host_of;
+use crate::texts::{host_of, only_host_of};
 use serde_json::Value as Json;
 use std::alloc::Global;
 
@@ -41,6 +41,8 @@ fn command_of(alloc: Global, value: &Json) -> Result<Command, LineFault>
         ("create", 2) => create_of(alloc, member(value, "host")?),
         ("dump", 1) => Ok(Command::Dump),
         ("steps", 2) => steps_of(alloc, member(value, "events")?),
+        ("stop", 1) => Ok(Command::Stop),
+        ("recover", 2) => recover_of(alloc, member(value, "hosts")?),
         _ => Err(LineFault::Form),
     }
 }
@@ -58,6 +60,14 @@ fn steps_of(alloc: Global, events: &Json) -> Result<Command, LineFault>
 {
     Ok(Command::Steps {
         events: events_of(alloc, events)?,
+    })
+}
+
+fn recover_of(alloc: Global, hosts: &Json) -> Result<Command, LineFault>
+    ensures { Reads (IsCommandOf (object_of_two (codes "do") (string (codes "recover")) (codes "hosts") (view hosts.now))) result }
+{
+    Ok(Command::Recover {
+        host: only_host_of(alloc, hosts)?,
     })
 }
 

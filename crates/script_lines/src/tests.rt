@@ -18,6 +18,8 @@ fn words(alloc: Global, line: &[u8]) -> Result<String, AllocError> {
             }
             Ok(text)
         }
+        Ok(Command::Stop) => String::from_str(alloc, "stop"),
+        Ok(Command::Recover { host }) => format!(in alloc; "recover {}", host.text()),
         Err(LineFault::Form) => String::from_str(alloc, "form"),
         Err(LineFault::NoMemory) => String::from_str(alloc, "no memory"),
     }
@@ -32,7 +34,7 @@ fn event_words(alloc: Global, event: &Event) -> Result<String, AllocError> {
     }
 }
 
-fn lines_of_commands() -> [(&'static [u8], &'static str); 15] {
+fn lines_of_commands() -> [(&'static [u8], &'static str); 21] {
     [
         // each form
         (br#"{"do":"create","host":"a"}"#, "create a"),
@@ -50,14 +52,23 @@ fn lines_of_commands() -> [(&'static [u8], &'static str); 15] {
             br#"{"do":"steps","events":[["put","c","k",""]]}"#,
             "steps put(c,k,)",
         ),
+        (br#"{"do":"stop"}"#, "stop"),
+        (br#"{"do":"recover","hosts":["a"]}"#, "recover a"),
         // other orders, blanks, and the last of several members of one name
         (br#"{"host":"a","do":"create"}"#, "create a"),
         (br#"{"events":[],"do":"steps"}"#, "steps"),
+        (br#"{"hosts":["b"],"do":"recover"}"#, "recover b"),
         (b" \t{ \"do\" :\r \"dump\" } \r", "dump"),
         (br#"{"do":"create","host":"a","host":"b"}"#, "create b"),
         (br#"{"do":"dump","do":"create","host":"a"}"#, "create a"),
+        (br#"{"do":"recover","hosts":[],"hosts":["b"]}"#, "recover b"),
+        (br#"{"do":"dump","do":"stop"}"#, "stop"),
         // names
         (br#"{"do":"create","host":"A-z_0.9"}"#, "create A-z_0.9"),
+        (
+            br#"{"do":"recover","hosts":["A-z_0.9"]}"#,
+            "recover A-z_0.9",
+        ),
         // escapes
         (br#"{"d\u006f":"\u0064ump"}"#, "dump"),
         (
@@ -71,7 +82,7 @@ fn lines_of_commands() -> [(&'static [u8], &'static str); 15] {
     ]
 }
 
-fn lines_without_form() -> [&'static [u8]; 47] {
+fn lines_without_form() -> [&'static [u8]; 64] {
     [
         // the last of two members of one name
         br#"{"do":"create","host":"a","host":1}"#,
@@ -85,10 +96,17 @@ fn lines_without_form() -> [&'static [u8]; 47] {
         br#"{"do":"steps","events":[],"client":0}"#,
         br#"{"do":"steps","host":"a"}"#,
         br#"{"host":"a"}"#,
+        br#"{"do":"stop","host":"a"}"#,
+        br#"{"do":"stop","hosts":["a"]}"#,
+        br#"{"do":"recover"}"#,
+        br#"{"do":"recover","host":"a"}"#,
+        br#"{"do":"recover","hosts":["a"],"epoch":1}"#,
+        br#"{"hosts":["a"]}"#,
         br#"{}"#,
         // another name of the command
         br#"{"do":"Dump"}"#,
         br#"{"do":"dumps"}"#,
+        br#"{"do":"Stop"}"#,
         br#"{"do":""}"#,
         br#"{"do":null}"#,
         br#"{"do":["dump"]}"#,
@@ -103,6 +121,17 @@ fn lines_without_form() -> [&'static [u8]; 47] {
         br#"{"do":"create","host":["a"]}"#,
         br#"{"do":"steps","events":[["get","","k"]]}"#,
         br#"{"do":"steps","events":[["get","c",""]]}"#,
+        // hosts that are no list of one name
+        br#"{"do":"recover","hosts":[]}"#,
+        br#"{"do":"recover","hosts":["a","b"]}"#,
+        br#"{"do":"recover","hosts":["a","a"]}"#,
+        br#"{"do":"recover","hosts":["a b"]}"#,
+        br#"{"do":"recover","hosts":[""]}"#,
+        br#"{"do":"recover","hosts":[1]}"#,
+        br#"{"do":"recover","hosts":[["a"]]}"#,
+        br#"{"do":"recover","hosts":"a"}"#,
+        br#"{"do":"recover","hosts":{"a":"a"}}"#,
+        br#"{"do":"recover","hosts":null}"#,
         // events of another shape
         br#"{"do":"steps","events":[["put","c","k"]]}"#,
         br#"{"do":"steps","events":[["get","c","k","v"]]}"#,

@@ -3,7 +3,7 @@ ghost use Rattle.std.specs.Prelude.{◌≡◌, ◌↔◌, IsTrue};
 ghost use Rattle.serde_json.specs.Data.{string};
 ghost use Rattle.serde_json.specs.View.{view};
 ghost use Rattle.cache_key.specs.Names.{IsName, IsKey, IsValue};
-ghost use Rattle.script_lines.specs.Reading.{Reads, IsTextOf};
+ghost use Rattle.script_lines.specs.Reading.{Reads, IsTextOf, IsOnlyHostOf};
 
 use crate::fault::LineFault;
 use cache_key::{CacheName, HostName, Key, Value};
@@ -18,6 +18,19 @@ pub(crate) fn host_of(alloc: Global, value: &Json) -> Result<HostName, LineFault
         return Err(LineFault::Form);
     };
     Ok(HostName::of(alloc, text)?)
+}
+
+/// The name of the one host of a list.
+pub(crate) fn only_host_of(alloc: Global, value: &Json) -> Result<HostName, LineFault>
+    ensures { Reads (IsOnlyHostOf (view value.now)) result }
+{
+    let Some(hosts) = value.as_array() else {
+        return Err(LineFault::Form);
+    };
+    match hosts.as_slice() {
+        [host] => host_of(alloc, host),
+        _ => Err(LineFault::Form),
+    }
 }
 
 /// The name of a cache.

@@ -1,17 +1,22 @@
--- Where a cluster was made and no disk has failed, it is open with what was answered.
-use Rattle.std.proofs.Common.{◌≡◌, ◌⊎◌, inl, inr, ℕ, ◌≤◌, List, [], ◌∷◌, ◌++◌, refl, sym, ◌∙◌, ap, subst, append_assoc, arith}
+-- Where a cluster was made and no disk has failed since, the store has what was answered.
+use Rattle.std.proofs.Common.{◌≡◌, inl, inr, ⊎_elim, ℕ, ◌≤◌, List, [], ◌∷◌, ◌++◌, refl, sym, ◌∙◌, ap, subst, append_assoc, arith, Bool}
+use Rattle.std.specs.Prelude.{IsTrue}
 use Rattle.std.proofs.lemmas.List.{append-nil}
 use Rattle.fault_count.specs.Rose.{Rose}
 use Rattle.cache_model.specs.Change.{Change}
+use Rattle.disk_trait.specs.View.{Image, View}
+use Rattle.newest_store.specs.Newest.{HasStore}
+use Rattle.store_ident.specs.declared.ident.StoreId.{StoreId}
 use Rattle.script_lines.specs.declared.command.Command.{Command}
-use Rattle.script_lines.specs.declared.command.Command.TheVariants.{Create, Dump, Steps}
+use Rattle.script_lines.specs.declared.command.Command.TheVariants.{Create, Recover, Stop, Dump, Steps}
 use Rattle.script_lines.specs.declared.command.Event.{Event}
 use Rattle.script_lines.specs.declared.command.Event.TheVariants.{Get, Put}
 use Rattle.script_lines.specs.declared.answer.Answer.{Answer}
 use Rattle.script_lines.specs.declared.answer.Outcome.{Outcome}
 use Rattle.script_lines.specs.declared.answer.Outcome.TheVariants.{Value, Refused}
-use Rattle.cluster_cli.specs.State.{Stage, closed, opened, State, EventChange, EventRun, StageStep, Run}
-use Rattle.cluster_cli.specs.Answered.{change_done, changes_done, changes_of_command, changes_answered, IsCreated, HasCreated}
+use Rattle.cluster_cli.specs.State.{Served, Saved, unknown, none, known, Stage, closed, opened, failing, State, EventChange, EventRun, OpenStep, StageStep, Run, first_store, made_at}
+use Rattle.cluster_cli.specs.Answered.{change_done, changes_done, changes_with, changes_since, changes_answered, IsCreated, HasCreated}
+use Rattle.cluster_cli.specs.Kept.{IsStored, IsHeld}
 
 -- ---- counts
 
@@ -33,95 +38,203 @@ run_later hosts old [] (answer ∷ answers) new run = absurd run
 run_later hosts old (command ∷ commands) [] new run = absurd run
 run_later hosts old (command ∷ commands) (answer ∷ answers) new run = let more = run_later hosts run.0 commands answers new run.2 in omega (arith, run.1.0, more)
 
--- ---- events
+-- ---- the first store, with these changes
+
+abbrev holds : Served → List Change → Type 0
+holds served changes = (served.file ≡ 0) × (served.id ≡ first_store) × (served.changes ≡ changes)
+
+abbrev Holds : Stage → List Change → Type 0
+Holds (closed unknown) changes = ⊥
+Holds (closed none) changes = ⊥
+Holds (closed (known file id saved flight)) changes = (file ≡ 0) × (id ≡ first_store) × (saved ≡ changes) × (flight ≡ [])
+Holds (opened served) changes = holds served changes
+Holds (failing served flight) changes = ⊥
 
 -- one event of an open cluster
-change_made : (host : List ℕ) (changes : List Change) (event : Event) (outcome : Outcome) (new : Stage) (fault : Type 0) → (fault → ⊥) → EventChange (opened host changes) event outcome new fault
-    → new ≡ opened host (changes ++ change_done event outcome)
-change_made host changes (Get cache key) (Value value) new fault sound step = step.1 ∙ ap (λ (cs : List Change). opened host cs) (sym (append-nil changes))
-change_made host changes (Get cache key) (Refused refusal) new fault sound step = absurd step
-change_made host changes (Put cache key written) (Value value) new fault sound step = step.1
-change_made host changes (Put cache key written) (Refused refusal) new fault sound step = absurd (sound step.1)
+change_made : (served : Served) (changes : List Change) (event : Event) (outcome : Outcome) (new : Stage) (fault : Type 0) → (fault → ⊥) → EventChange (opened served) event outcome new fault
+    → holds served changes → (next : Served) × (new ≡ opened next) × holds next (changes ++ change_done event outcome)
+change_made served changes (Get cache key) (Value value) new fault sound step has = (served, step.1, (has.0, has.1, has.2 ∙ sym (append-nil changes)))
+change_made served changes (Get cache key) (Refused refusal) new fault sound step has = absurd step
+change_made served changes (Put cache key written) (Value value) new fault sound step has = (_, step.1, (has.0, has.1, ap (λ (cs : List Change). cs ++ change_done (Put cache key written) (Value value)) has.2))
+change_made served changes (Put cache key written) (Refused refusal) new fault sound step has = absurd (sound step.1)
 
-events_made : (old : State) (events : List Event) (outcomes : List Outcome) (new : State) (host : List ℕ) (changes : List Change)
-    → EventRun old events outcomes new → (Rose old.faults new.faults → ⊥) → old.stage ≡ opened host changes → new.stage ≡ opened host (changes ++ changes_done events outcomes)
-events_made old [] [] new host changes run sound stage = ap (λ (s : State). s.stage) run ∙ stage ∙ ap (λ (cs : List Change). opened host cs) (sym (append-nil changes))
-events_made old [] (outcome ∷ outcomes) new host changes run sound stage = absurd run
-events_made old (event ∷ events) [] new host changes run sound stage = absurd run
-events_made old (event ∷ events) (outcome ∷ outcomes) new host changes run sound stage =
+events_made : (old : State) (events : List Event) (outcomes : List Outcome) (new : State) (served : Served) (changes : List Change)
+    → EventRun old events outcomes new → (Rose old.faults new.faults → ⊥) → old.stage ≡ opened served → holds served changes
+    → (next : Served) × (new.stage ≡ opened next) × holds next (changes ++ changes_done events outcomes)
+events_made old [] [] new served changes run sound stage has = (served, ap (λ (s : State). s.stage) run ∙ stage, (has.0, has.1, has.2 ∙ sym (append-nil changes)))
+events_made old [] (outcome ∷ outcomes) new served changes run sound stage has = absurd run
+events_made old (event ∷ events) [] new served changes run sound stage has = absurd run
+events_made old (event ∷ events) (outcome ∷ outcomes) new served changes run sound stage has =
     let mid = run.0 in
     let after = events_later mid events outcomes new run.2 in
-    let step = subst (λ (s : Stage). EventChange s event outcome mid.stage (Rose old.faults mid.faults)) stage run.1.1 in
-    let here = change_made host changes event outcome mid.stage (Rose old.faults mid.faults) (λ fault. sound (rose_on old.faults mid.faults new.faults after fault)) step in
-    events_made mid events outcomes new host (changes ++ change_done event outcome) run.2 (λ fault. sound (rose_back old.faults mid.faults new.faults run.1.0 fault)) here
-    ∙ ap (λ (cs : List Change). opened host cs) (append_assoc changes (change_done event outcome) (changes_done events outcomes))
+    let step = subst (λ (s : Stage). EventChange s event outcome mid.stage (Rose old.faults mid.faults)) stage run.1.2 in
+    let here = change_made served changes event outcome mid.stage (Rose old.faults mid.faults) (λ fault. sound (rose_on old.faults mid.faults new.faults after fault)) step has in
+    let more = events_made mid events outcomes new here.0 (changes ++ change_done event outcome) run.2 (λ fault. sound (rose_back old.faults mid.faults new.faults run.1.0 fault)) here.1 here.2 in
+    subst (λ (cs : List Change). (next : Served) × (new.stage ≡ opened next) × holds next cs) (append_assoc changes (change_done event outcome) (changes_done events outcomes)) more
 
 -- ---- commands
 
--- one command of an open cluster
-command_made : (hosts : List (List ℕ)) (host : List ℕ) (changes : List Change) (faults : ℕ) (command : Command) (answer : Answer) (new : State)
-    → (Rose faults new.faults → ⊥) → StageStep hosts (opened host changes) faults command answer new → new.stage ≡ opened host (changes ++ changes_of_command command answer)
-command_made hosts host changes faults (Create other) answer new sound step = step.1 ∙ ap (λ (cs : List Change). opened host cs) (sym (append-nil changes))
-command_made hosts host changes faults Dump answer new sound step = step.1 ∙ ap (λ (cs : List Change). opened host cs) (sym (append-nil changes))
-command_made hosts host changes faults (Steps events) answer new sound step =
-    events_made (record { stage = opened host changes; faults = faults }) events step.0 new host changes step.1 sound refl
-    ∙ ap (λ (a : Answer). opened host (changes ++ changes_of_command (Steps events) a)) (sym step.2)
+-- the stage goes on with it
+on : (stage next : Stage) (changes : List Change) → next ≡ stage → Holds stage changes → Holds next changes
+on stage next changes is has = subst (λ (s : Stage). Holds s changes) (sym is) has
 
-run_made : (hosts : List (List ℕ)) (old : State) (commands : List Command) (answers : List Answer) (new : State) (host : List ℕ) (changes : List Change)
-    → Run hosts old commands answers new → (Rose old.faults new.faults → ⊥) → old.stage ≡ opened host changes → new.stage ≡ opened host (changes ++ changes_answered commands answers)
-run_made hosts old [] [] new host changes run sound stage = ap (λ (s : State). s.stage) run ∙ stage ∙ ap (λ (cs : List Change). opened host cs) (sym (append-nil changes))
-run_made hosts old [] (answer ∷ answers) new host changes run sound stage = absurd run
-run_made hosts old (command ∷ commands) [] new host changes run sound stage = absurd run
-run_made hosts old (command ∷ commands) (answer ∷ answers) new host changes run sound stage =
+refused_as : (changes : List Change) (command : Command) (answer other : Answer) → answer ≡ other → changes ≡ changes_with changes command other → changes ≡ changes_with changes command answer
+refused_as changes command answer other is same = same ∙ ap (λ (a : Answer). changes_with changes command a) (sym is)
+
+-- the changes after an answer, and what holds of them
+abbrev Next : Stage → List Change → Command → Answer → Type 0
+Next new changes command answer = Holds new (changes_with changes command answer)
+
+-- an answer that adds nothing
+plain : (new : Stage) (changes : List Change) (command : Command) (answer other : Answer) → answer ≡ other → changes ≡ changes_with changes command other → Holds new changes → Next new changes command answer
+plain new changes command answer other is same has = subst (λ (cs : List Change). Holds new cs) (refused_as changes command answer other is same) has
+
+command_open : (hosts : List (List ℕ)) (served : Served) (faults : ℕ) (tells : Bool) (changes : List Change) (command : Command) (answer : Answer) (new : State)
+    → (Rose faults new.faults → ⊥) → StageStep hosts (opened served) faults tells command answer new → holds served changes → Next new.stage changes command answer
+command_open hosts served faults tells changes (Create host) answer new sound step has = plain new.stage changes (Create host) answer _ step.0 refl (on (opened served) new.stage changes step.1 has)
+command_open hosts served faults tells changes (Recover host) answer new sound step has = plain new.stage changes (Recover host) answer _ step.0 refl (on (opened served) new.stage changes step.1 has)
+command_open hosts served faults tells changes Stop answer new sound step has = plain new.stage changes Stop answer _ step.0 refl (on _ new.stage changes step.1 (has.0, has.1, has.2, refl))
+command_open hosts served faults tells changes Dump answer new sound step has = plain new.stage changes Dump answer _ step.0.2 refl (on (opened served) new.stage changes step.1 has)
+command_open hosts served faults tells changes (Steps events) answer new sound step has =
+    let more = events_made _ events step.0 new served changes step.1 sound refl has in
+    subst (λ (a : Answer). Next new.stage changes (Steps events) a) (sym step.2) (on (opened more.0) new.stage (changes ++ changes_done events step.0) more.1 more.2)
+
+command_closed : (hosts : List (List ℕ)) (file : ℕ) (id : StoreId) (saved flight : List Change) (faults : ℕ) (tells : Bool) (changes : List Change) (command : Command) (answer : Answer) (new : State)
+    → IsTrue tells → (Rose faults new.faults → ⊥) → StageStep hosts (closed (known file id saved flight)) faults tells command answer new → Holds (closed (known file id saved flight)) changes → Next new.stage changes command answer
+command_closed hosts file id saved flight faults tells changes (Create host) answer new does sound step has = elim step [
+  | inl made ↦ subst (λ (a : Answer). Next new.stage changes (Create host) a) (sym made.1) (on (opened (made_at host)) new.stage [] made.2 (refl, refl, refl))
+  | inr refused ↦ elim refused [
+    | inl lacks ↦ plain new.stage changes (Create host) answer _ lacks.1 refl (on _ new.stage changes lacks.2 has)
+    | inr failed ↦ absurd (sound failed.2)
+  ]
+]
+command_closed hosts file id saved flight faults tells changes (Recover host) answer new does sound step has = elim step [
+  | inl found ↦
+      let is = found.4 does in
+      let all : found.2.changes ≡ changes = ⊎_elim (λ same. same ∙ has.2) (λ more. more ∙ ap (λ (cs : List Change). saved ++ cs) has.3 ∙ append-nil saved ∙ has.2) is.2 in
+      plain new.stage changes (Recover host) answer _ found.1 refl (on (opened found.2) new.stage changes found.5 (is.0 ∙ has.0, is.1 ∙ has.1, all))
+  | inr refused ↦ elim refused [
+    | inl lacks ↦ plain new.stage changes (Recover host) answer _ lacks.1 refl (on _ new.stage changes lacks.2 has)
+    | inr rest ↦ elim rest [
+      | inl failed ↦ absurd (sound failed.2)
+      | inr lost ↦ absurd (lost.1 does)
+    ]
+  ]
+]
+command_closed hosts file id saved flight faults tells changes Stop answer new does sound step has = plain new.stage changes Stop answer _ step.0 refl (on _ new.stage changes step.1 has)
+command_closed hosts file id saved flight faults tells changes Dump answer new does sound step has = plain new.stage changes Dump answer _ step.0 refl (on _ new.stage changes step.1 has)
+command_closed hosts file id saved flight faults tells changes (Steps events) answer new does sound step has = plain new.stage changes (Steps events) answer _ step.0 refl (on _ new.stage changes step.1 has)
+
+-- one command, from a stage at which the first store holds these changes
+command_made : (hosts : List (List ℕ)) (stage : Stage) (faults : ℕ) (tells : Bool) (changes : List Change) (command : Command) (answer : Answer) (new : State)
+    → IsTrue tells → (Rose faults new.faults → ⊥) → StageStep hosts stage faults tells command answer new → Holds stage changes → Next new.stage changes command answer
+command_made hosts (closed unknown) faults tells changes command answer new does sound step has = absurd has
+command_made hosts (closed none) faults tells changes command answer new does sound step has = absurd has
+command_made hosts (closed (known file id saved flight)) faults tells changes command answer new does sound step has =
+    command_closed hosts file id saved flight faults tells changes command answer new does sound step has
+command_made hosts (opened served) faults tells changes command answer new does sound step has = command_open hosts served faults tells changes command answer new sound step has
+command_made hosts (failing served flight) faults tells changes command answer new does sound step has = absurd has
+
+run_made : (hosts : List (List ℕ)) (old : State) (commands : List Command) (answers : List Answer) (new : State) (changes : List Change)
+    → IsTrue old.told → Run hosts old commands answers new → (Rose old.faults new.faults → ⊥) → Holds old.stage changes → Holds new.stage (changes_since changes commands answers)
+run_made hosts old [] [] new changes does run sound has = subst (λ (s : State). Holds s.stage changes) (sym run) has
+run_made hosts old [] (answer ∷ answers) new changes does run sound has = absurd run
+run_made hosts old (command ∷ commands) [] new changes does run sound has = absurd run
+run_made hosts old (command ∷ commands) (answer ∷ answers) new changes does run sound has =
     let mid = run.0 in
     let after = run_later hosts mid commands answers new run.2 in
-    let step = subst (λ (s : Stage). StageStep hosts s old.faults command answer mid) stage run.1.1 in
-    let here = command_made hosts host changes old.faults command answer mid (λ fault. sound (rose_on old.faults mid.faults new.faults after fault)) step in
-    run_made hosts mid commands answers new host (changes ++ changes_of_command command answer) run.2 (λ fault. sound (rose_back old.faults mid.faults new.faults run.1.0 fault)) here
-    ∙ ap (λ (cs : List Change). opened host cs) (append_assoc changes (changes_of_command command answer) (changes_answered commands answers))
+    let here = command_made hosts old.stage old.faults old.told changes command answer mid does (λ fault. sound (rose_on old.faults mid.faults new.faults after fault)) run.1.2 has in
+    run_made hosts mid commands answers new (changes_with changes command answer) (subst IsTrue (sym run.1.1) does) run.2
+    (λ fault. sound (rose_back old.faults mid.faults new.faults run.1.0 fault)) here
 
--- ---- from no cluster on
+-- ---- from an answered create on
 
--- what one command does to no cluster: it stays so, or a cluster is made
-pub record Begins (command : Command) (answer : Answer) (new : Stage) : Type 0 where
-  pub host : List ℕ
-  pub nothing : changes_of_command command answer ≡ []
-  pub which : ((new ≡ closed) × (IsCreated answer → ⊥)) ⊎ (new ≡ opened host [])
+not_created : (answer other : Answer) → answer ≡ other → IsCreated answer → (IsCreated other → ⊥) → ⊥
+not_created answer other is created not = not (subst IsCreated is created)
 
-closed_made : (hosts : List (List ℕ)) (faults : ℕ) (command : Command) (answer : Answer) (new : State) → StageStep hosts closed faults command answer new → Begins command answer new.stage
-closed_made hosts faults (Create host) answer new step = record {
-  host = host;
-  nothing = refl;
-  which = elim step [
-    | inl made ↦ inr made.2
-    | inr refused ↦ elim refused [
-      | inl none ↦ inl (none.2, λ is. subst IsCreated none.1 is)
-      | inr failed ↦ inl (failed.3, λ is. subst IsCreated failed.1 is)
+-- what a create makes, whatever stood before
+abbrev Makes : Stage → List Change → Command → Answer → Type 0
+Makes new changes command answer = IsCreated answer → Next new changes command answer
+
+created_open : (hosts : List (List ℕ)) (stage : Stage) (served : Served) (faults : ℕ) (tells : Bool) (changes : List Change) (command : Command) (answer : Answer) (new : State)
+    → OpenStep stage served faults tells command answer new → Makes new.stage changes command answer
+created_open hosts stage served faults tells changes (Create host) answer new step made = absurd (not_created answer _ step.0 made (λ b. b))
+created_open hosts stage served faults tells changes (Recover host) answer new step made = absurd (not_created answer _ step.0 made (λ b. b))
+created_open hosts stage served faults tells changes Stop answer new step made = absurd (not_created answer _ step.0 made (λ b. b))
+created_open hosts stage served faults tells changes Dump answer new step made = absurd (not_created answer _ step.0.2 made (λ b. b))
+created_open hosts stage served faults tells changes (Steps events) answer new step made = absurd (not_created answer _ step.2 made (λ b. b))
+
+created_closed : (hosts : List (List ℕ)) (saved : Saved) (faults : ℕ) (tells : Bool) (changes : List Change) (command : Command) (answer : Answer) (new : State)
+    → StageStep hosts (closed saved) faults tells command answer new → Makes new.stage changes command answer
+created_closed hosts saved faults tells changes (Create host) answer new step made = elim step [
+  | inl here ↦ subst (λ (a : Answer). Next new.stage changes (Create host) a) (sym here.1) (on (opened (made_at host)) new.stage [] here.2 (refl, refl, refl))
+  | inr refused ↦ elim refused [
+    | inl lacks ↦ absurd (not_created answer _ lacks.1 made (λ b. b))
+    | inr failed ↦ absurd (not_created answer _ failed.1 made (λ b. b))
+  ]
+]
+created_closed hosts saved faults tells changes (Recover host) answer new step made = elim step [
+  | inl found ↦ absurd (not_created answer _ found.1 made (λ b. b))
+  | inr refused ↦ elim refused [
+    | inl lacks ↦ absurd (not_created answer _ lacks.1 made (λ b. b))
+    | inr rest ↦ elim rest [
+      | inl failed ↦ absurd (not_created answer _ failed.1 made (λ b. b))
+      | inr lost ↦ elim lost.2 [
+        | inl lacks ↦ absurd (not_created answer _ lacks made (λ b. b))
+        | inr damaged ↦ absurd (not_created answer _ damaged.2 made (λ b. b))
+      ]
     ]
-  ];
-}
-closed_made hosts faults Dump answer new step = record { host = []; nothing = refl; which = inl (step.1, λ is. subst IsCreated step.0 is) }
-closed_made hosts faults (Steps events) answer new step = record {
-  host = [];
-  nothing = ap (λ (a : Answer). changes_of_command (Steps events) a) step.0;
-  which = inl (step.1, λ is. subst IsCreated step.0 is);
-}
+  ]
+]
+created_closed hosts saved faults tells changes Stop answer new step made = absurd (not_created answer _ step.0 made (λ b. b))
+created_closed hosts saved faults tells changes Dump answer new step made = absurd (not_created answer _ step.0 made (λ b. b))
+created_closed hosts saved faults tells changes (Steps events) answer new step made = absurd (not_created answer _ step.0 made (λ b. b))
 
--- a run in which a cluster was made and no disk has failed ends with it open, and with the changes that were answered
-pub made_whole : (hosts : List (List ℕ)) (old : State) (commands : List Command) (answers : List Answer) (new : State)
-    → Run hosts old commands answers new → (Rose old.faults new.faults → ⊥) → old.stage ≡ closed → HasCreated answers → (host : List ℕ) × (new.stage ≡ opened host (changes_answered commands answers))
-made_whole hosts old [] [] new run sound stage made = absurd made
-made_whole hosts old [] (answer ∷ answers) new run sound stage made = absurd run
-made_whole hosts old (command ∷ commands) [] new run sound stage made = absurd run
-made_whole hosts old (command ∷ commands) (answer ∷ answers) new run sound stage made =
+created : (hosts : List (List ℕ)) (stage : Stage) (faults : ℕ) (tells : Bool) (changes : List Change) (command : Command) (answer : Answer) (new : State)
+    → StageStep hosts stage faults tells command answer new → Makes new.stage changes command answer
+created hosts (closed saved) faults tells changes command answer new step = created_closed hosts saved faults tells changes command answer new step
+created hosts (opened served) faults tells changes command answer new step = created_open hosts (opened served) served faults tells changes command answer new step
+created hosts (failing served flight) faults tells changes command answer new step = created_open hosts (failing served flight) served faults tells changes command answer new step
+
+-- a run in which a cluster was made and no disk has failed ends with what was answered since
+made_whole : (hosts : List (List ℕ)) (old : State) (commands : List Command) (answers : List Answer) (new : State) (changes : List Change)
+    → IsTrue old.told → Run hosts old commands answers new → (Rose old.faults new.faults → ⊥) → HasCreated answers → Holds new.stage (changes_since changes commands answers)
+made_whole hosts old [] [] new changes does run sound made = absurd made
+made_whole hosts old [] (answer ∷ answers) new changes does run sound made = absurd run
+made_whole hosts old (command ∷ commands) [] new changes does run sound made = absurd run
+made_whole hosts old (command ∷ commands) (answer ∷ answers) new changes does run sound made =
     let mid = run.0 in
-    let begins = closed_made hosts old.faults command answer mid (subst (λ (s : Stage). StageStep hosts s old.faults command answer mid) stage run.1.1) in
-    let on = λ (fault : Rose mid.faults new.faults). sound (rose_back old.faults mid.faults new.faults run.1.0 fault) in
-    let none = ap (λ (cs : List Change). cs ++ changes_answered commands answers) begins.nothing in
-    elim begins.which [
-      | inl still ↦
-          let rest = made_whole hosts mid commands answers new run.2 on still.0 (elim made [ inl here ↦ absurd (still.1 here) | inr there ↦ there ]) in
-          (rest.0, rest.1 ∙ ap (λ (cs : List Change). opened rest.0 cs) (sym none))
-      | inr here ↦
-          (begins.host, run_made hosts mid commands answers new begins.host [] run.2 on here ∙ ap (λ (cs : List Change). opened begins.host cs) (sym none))
+    let on_ = λ (fault : Rose mid.faults new.faults). sound (rose_back old.faults mid.faults new.faults run.1.0 fault) in
+    let tells = subst IsTrue (sym run.1.1) does in
+    elim made [
+      | inl here ↦ run_made hosts mid commands answers new (changes_with changes command answer) tells run.2 on_ (created hosts old.stage old.faults old.told changes command answer mid run.1.2 here)
+      | inr there ↦ made_whole hosts mid commands answers new (changes_with changes command answer) tells run.2 on_ there
     ]
+
+-- in each image the first store has them
+same_place : (file : ℕ) (id : StoreId) (saved changes : List Change) (m : Image) → file ≡ 0 → id ≡ first_store → saved ≡ changes → HasStore 0 1 file id saved m → HasStore 0 1 0 first_store changes m
+same_place file id saved changes m in_file named same has =
+    subst (λ (f : ℕ). HasStore 0 1 f first_store changes m) in_file
+    (subst (λ (i : StoreId). HasStore 0 1 file i changes m) named
+    (subst (λ (cs : List Change). HasStore 0 1 file id cs m) same has))
+
+held : (stage : Stage) (changes : List Change) (v : View) → Holds stage changes → IsStored stage v → IsHeld changes v
+held (closed unknown) changes v has stored = absurd has
+held (closed none) changes v has stored = absurd has
+held (closed (known file id saved flight)) changes v has stored = λ m is.
+    ⊎_elim (λ here. same_place file id saved changes m has.0 has.1 has.2 here)
+    (λ more. same_place file id (saved ++ flight) changes m has.0 has.1 (ap (λ (cs : List Change). saved ++ cs) has.3 ∙ append-nil saved ∙ has.2) more)
+    (stored m is)
+held (opened served) changes v has stored = λ m is.
+    ⊎_elim (λ here. same_place served.file served.id served.changes changes m has.0 has.1 has.2 here)
+    (λ more. same_place served.file served.id (served.changes ++ []) changes m has.0 has.1 (append-nil served.changes ∙ has.2) more)
+    (stored m is)
+held (failing served flight) changes v has stored = absurd has
+
+-- where a cluster was made and the disk has not failed, all that was answered since is in the store
+pub held_whole : (hosts : List (List ℕ)) (first last : State) (commands : List Command) (answers : List Answer) (v : View)
+    → IsTrue first.told → Run hosts first commands answers last → last.faults ≡ v.faults → IsStored last.stage v
+    → HasCreated answers → (Rose first.faults v.faults → ⊥) → IsHeld (changes_answered commands answers) v
+held_whole hosts first last commands answers v tells run counted stored made sound =
+    held last.stage (changes_answered commands answers) v
+    (made_whole hosts first commands answers last [] tells run (λ fault. sound (subst (λ (n : ℕ). Rose first.faults n) counted fault)) made) stored

@@ -8,14 +8,16 @@ use native.Mathlib.Decide.{dec_le, ℕ_discrete}
 use Rattle.script_lines.specs.Form.{HasNoForm}
 use Rattle.report_lines.specs.Line.{fault_line}
 use Rattle.report_lines.specs.declared.fault.Fault.TheVariants.{Script}
+use Rattle.disk_trait.specs.View.{View}
 use Rattle.cluster_cli.specs.State.{State, Span, up_to}
+use Rattle.cluster_cli.specs.Kept.{IsAt, IsLeft}
 use Rattle.cluster_cli.specs.Script.{line_feed, ended, HasNoLineFeed}
 use Rattle.cluster_cli.specs.Faults.{FollowsLine, IsFaulty, is_long, is_late, is_far, is_formless, StopsAt, IsReportedToFault}
 use Rattle.cluster_cli.specs.Progress.{IsPast, Reached}
 use Rattle.cluster_cli.specs.declared.session.Session.{Session}
 use Rattle.cluster_cli.specs.declared.session.Stop.{Stop}
 use Rattle.cluster_cli.specs.declared.session.Stop.TheVariants.{Faulty, ReadFault, WriteFault, NoMemory}
-use Rattle.cluster_cli.proofs.ProgressLemmas.{all_append, piece_goes_on}
+use Rattle.cluster_cli.proofs.ProgressLemmas.{all_append, is_left, piece_goes_on}
 
 pub order : (m n : ℕ) → (m ≤ n) ⊎ (n < m)
 order m n = dite (dec_le m n) (λ p. inl p) (λ p. inr (omega arith))
@@ -63,18 +65,19 @@ cut (byte ∷ bytes) = dite (ℕ_discrete byte line_feed)
 
 -- ---- a faulty line
 
--- the line under way, with its tail, is faulty
-pub stops : (hosts : List (List ℕ)) (first : State) (script given before tail rest : List ℕ) (session : Session) (faults : ℕ) (written : Option (List ℕ)) (n : ℕ)
-    → Reached hosts first given before session faults written → script ≡ given ++ (tail ++ rest) → HasNoLineFeed tail → FollowsLine rest
+-- the line under way, with its tail, is faulty, and the disk was left as it was
+pub stops : (hosts : List (List ℕ)) (first : State) (script given before tail rest : List ℕ) (session : Session) (v w : View) (written : Option (List ℕ)) (n : ℕ)
+    → ((state : State) → IsAt session.cluster v state → IsLeft w state)
+    → Reached hosts first given before session v written → script ≡ given ++ (tail ++ rest) → HasNoLineFeed tail → FollowsLine rest
     → (session.partial.items ++ tail) ++ rest ≢ [] → n ≡ session.lines + 1
-    → IsFaulty session.lines session.passed (session.partial.items ++ tail) rest → StopsAt hosts (up_to first faults) script before n written
-stops hosts first script given before tail rest session faults written n so_far is no_feed follows some number fault =
+    → IsFaulty session.lines session.passed (session.partial.items ++ tail) rest → StopsAt hosts (up_to first w) script before n written
+stops hosts first script given before tail rest session v w written n left so_far is no_feed follows some number fault =
     let few = session.few in
     let small = session.small in
     record {
       commands = so_far.commands;
       answers = so_far.answers;
-      last = _;
+      last = so_far.last;
       faulty = record {
         lines = so_far.lines;
         line = session.partial.items ++ tail;
@@ -92,7 +95,7 @@ stops hosts first script given before tail rest session faults written n so_far 
         fault = rw (← so_far.counted, ← so_far.measured) fault;
       };
       run = so_far.run;
-      counted = omega arith;
+      at_end = left so_far.last so_far.at;
       told = so_far.told;
     }
 
@@ -113,26 +116,26 @@ pub not_empty : (front tail rest : List ℕ) → 0 < length front + length tail 
 not_empty front tail rest some is = let sizes = simp length-append at (ap length is) in omega (arith, sizes, some)
 
 -- what has come of the line under way is past a limit
-pub held_past : (hosts : List (List ℕ)) (first : State) (given before more after : List ℕ) (session : Session) (faults : ℕ) (written : Option (List ℕ)) (n : ℕ)
-    → IsPast session more n → HasNoLineFeed more → Reached hosts first given before session faults written → StopsAt hosts (up_to first faults) (given ++ (more ++ after)) before n written
-held_past hosts first given before more after session faults written n past no_feed so_far =
+pub held_past : (hosts : List (List ℕ)) (first : State) (given before more after : List ℕ) (session : Session) (v : View) (written : Option (List ℕ)) (n : ℕ)
+    → IsPast session more n → HasNoLineFeed more → Reached hosts first given before session v written → StopsAt hosts (up_to first v) (given ++ (more ++ after)) before n written
+held_past hosts first given before more after session v written n past no_feed so_far =
     let next = cut after in
     let size = session.partial.ok.0 in
     let held : length (session.partial.items ++ (more ++ next.front)) ≡ length session.partial.items + (length more + length next.front) = simp length-append (omega arith) in
     let some = past.some in
-    stops hosts first (given ++ (more ++ after)) given before (more ++ next.front) next.rest session faults written n so_far
+    stops hosts first (given ++ (more ++ after)) given before (more ++ next.front) next.rest session v v written n (is_left session.cluster v) so_far
     (ap (λ (t : List ℕ). given ++ (more ++ t)) next.whole ∙ ap (λ (t : List ℕ). given ++ t) (sym (append_assoc more next.front next.rest)))
     (all_append (λ (byte : ℕ). byte ≢ line_feed) more next.front no_feed next.here) next.follows
     (not_empty session.partial.items (more ++ next.front) next.rest (simp length-append (omega (arith, size, some)))) past.number
     (past_limit session.lines session.passed (session.partial.len + length more) _ next.rest past.past (omega (arith, size, held)))
 
 -- the line under way is faulty, and its line feed has come
-pub closes_faulty : (hosts : List (List ℕ)) (first : State) (given before after : List ℕ) (session : Session) (faults : ℕ) (was now : Option (List ℕ)) (n : ℕ)
-    → n ≡ session.lines + 1 → now ≡ was → IsFaulty session.lines session.passed session.partial.items (line_feed ∷ after)
-    → Reached hosts first given before session faults was → StopsAt hosts (up_to first faults) (given ++ line_feed ∷ after) before n now
-closes_faulty hosts first given before after session faults was now n number same fault so_far =
-    subst (λ (w : Option (List ℕ)). StopsAt hosts (up_to first faults) (given ++ line_feed ∷ after) before n w) (sym same)
-    (stops hosts first (given ++ line_feed ∷ after) given before [] (line_feed ∷ after) session faults was n so_far refl tt refl
+pub closes_faulty : (hosts : List (List ℕ)) (first : State) (given before after : List ℕ) (session : Session) (v w : View) (was now : Option (List ℕ)) (n : ℕ)
+    → ((state : State) → IsAt session.cluster v state → IsLeft w state) → n ≡ session.lines + 1 → now ≡ was → IsFaulty session.lines session.passed session.partial.items (line_feed ∷ after)
+    → Reached hosts first given before session v was → StopsAt hosts (up_to first w) (given ++ line_feed ∷ after) before n now
+closes_faulty hosts first given before after session v w was now n left number same fault so_far =
+    subst (λ (o : Option (List ℕ)). StopsAt hosts (up_to first w) (given ++ line_feed ∷ after) before n o) (sym same)
+    (stops hosts first (given ++ line_feed ∷ after) given before [] (line_feed ∷ after) session v w was n left so_far refl tt refl
     (not_empty session.partial.items [] (line_feed ∷ after) (omega arith)) number (rw (append-nil session.partial.items) fault))
 
 -- the line is past a limit of its script with its line feed
@@ -150,28 +153,15 @@ pub formless : (lines passed : ℕ) (line held rest : List ℕ) → line ≡ hel
 formless lines passed line held rest is some none = subst (λ (l : List ℕ). IsFaulty lines passed l rest) is (is_formless some none)
 
 -- the piece behind the last line feed is faulty
-pub finishes_faulty : (hosts : List (List ℕ)) (first : State) (script before : List ℕ) (session : Session) (faults : ℕ) (was now : Option (List ℕ)) (line : List ℕ) (n : ℕ)
-    → n ≡ session.lines + 1 → now ≡ was → line ≡ session.partial.items → line ≢ [] → HasNoForm line
-    → Reached hosts first script before session faults was → StopsAt hosts (up_to first faults) script before n now
-finishes_faulty hosts first script before session faults was now line n number same is some none so_far =
+pub finishes_faulty : (hosts : List (List ℕ)) (first : State) (script before : List ℕ) (session : Session) (v w : View) (was now : Option (List ℕ)) (line : List ℕ) (n : ℕ)
+    → ((state : State) → IsAt session.cluster v state → IsLeft w state) → n ≡ session.lines + 1 → now ≡ was → line ≡ session.partial.items → line ≢ [] → HasNoForm line
+    → Reached hosts first script before session v was → StopsAt hosts (up_to first w) script before n now
+finishes_faulty hosts first script before session v w was now line n left number same is some none so_far =
     let held : session.partial.items ≢ [] = λ empty. some (is ∙ empty) in
-    subst (λ (w : Option (List ℕ)). StopsAt hosts (up_to first faults) script before n w) (sym same)
-    (stops hosts first script script before [] [] session faults was n so_far (sym (append-nil script)) tt tt
+    subst (λ (o : Option (List ℕ)). StopsAt hosts (up_to first w) script before n o) (sym same)
+    (stops hosts first script script before [] [] session v w was n left so_far (sym (append-nil script)) tt tt
     (λ empty. held (sym (append-nil session.partial.items) ∙ sym (append-nil (session.partial.items ++ [])) ∙ empty)) number
     (rw (append-nil session.partial.items) (formless session.lines session.passed line session.partial.items [] is some none)))
-
--- the count may have risen since
-pub later_stop : (hosts : List (List ℕ)) (first : State) (script before : List ℕ) (n faults count : ℕ) (written : Option (List ℕ)) → faults ≤ count
-    → StopsAt hosts (up_to first faults) script before n written → StopsAt hosts (up_to first count) script before n written
-later_stop hosts first script before n faults count written le stop = record {
-  commands = stop.commands;
-  answers = stop.answers;
-  last = stop.last;
-  faulty = stop.faulty;
-  run = stop.run;
-  counted = (let counted = stop.counted in omega (arith, le, counted));
-  told = stop.told;
-}
 
 -- ---- pieces
 
@@ -202,6 +192,6 @@ tells_fault hosts span script before n was now stop told = record {
   last = stop.last;
   faulty = stop.faulty;
   run = stop.run;
-  counted = stop.counted;
+  at_end = stop.at_end;
   told = told _ stop.told;
 }

@@ -1,10 +1,15 @@
 mod AnsweredLemmas
+mod CommandLemmas
 mod CutLemmas
-mod DiskLemmas
+mod EventLemmas
 mod FaultLemmas
+mod LineLemmas
 mod ProgressLemmas
 mod ReadLemmas
+mod SiteLemmas
 mod StateLemmas
 mod StatusLemmas
+mod StoredLemmas
+mod SurvivesLemmas
+mod ToldLemmas
 mod WholeLemmas
-mod WordsLemmas

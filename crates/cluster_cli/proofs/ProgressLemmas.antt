@@ -1,5 +1,5 @@
 -- A run goes on by a line.
-use Rattle.std.proofs.Common.{◌≡◌, ◌≢◌, ℕ, ◌+◌, ◌<◌, ◌≤◌, List, [], ◌∷◌, ◌++◌, length, take, drop, sym, ◌∙◌, ap, subst, append_assoc, arith, length-append, Option, Some, false}
+use Rattle.std.proofs.Common.{◌≡◌, ◌≢◌, ℕ, ◌+◌, ◌<◌, ◌≤◌, List, [], ◌∷◌, ◌++◌, length, take, drop, sym, ◌∙◌, ap, subst, append_assoc, arith, length-append, refl, Option, Some, false}
 use Rattle.std.specs.Prelude.{◌==◌, flat_map}
 use Rattle.std.specs.Option.{ForSome}
 use Rattle.std.specs.List.{AllByRecursion}
@@ -10,10 +10,13 @@ use Rattle.script_lines.specs.declared.answer.Answer.{Answer}
 use Rattle.script_lines.specs.Form.{IsLineOf}
 use Rattle.cluster_cli.specs.Script.{line_feed, ended, HasNoLineFeed, IsSplit, IsShort, AreCommands}
 use Rattle.report_lines.specs.Line.{answer_line}
-use Rattle.cluster_cli.specs.State.{State, begun, Run}
-use Rattle.cluster_cli.specs.Kept.{state_of}
-use Rattle.cluster_cli.specs.Report.{report_of, IsReportOf, IsReported}
-use Rattle.cluster_cli.specs.Progress.{AnswerStep, LineStep, IsAnswered, Holds, Reached, Underway}
+use Rattle.cluster_cli.specs.State.{State, Run}
+use Rattle.disk_trait.specs.View.{View}
+use Rattle.cluster_cli.specs.Kept.{IsAt, IsLeft}
+use Rattle.cluster_cli.specs.declared.cluster.Cluster.{Cluster}
+use Rattle.cluster_cli.specs.declared.cluster.Cluster.TheVariants.{Closed}
+use Rattle.cluster_cli.specs.Report.{report_of, IsReportOf}
+use Rattle.cluster_cli.specs.Progress.{AnswerStep, LineStep, IsAnswered, IsWhollyReported, Holds, Reached, Underway}
 use Rattle.cluster_cli.specs.declared.session.Session.{Session}
 use Rattle.cluster_cli.proofs.StateLemmas.{run_more}
 
@@ -82,17 +85,21 @@ split_more given lines line split = record {
 pub length-whole_more : (lines : List (List ℕ)) (line : List ℕ) → length (flat_map ended (lines ++ line ∷ [])) ≡ length (flat_map ended lines) + (length line + 1)
 length-whole_more lines line = rw (whole_more lines line) (simp length-append (omega arith))
 
+-- what the code and the disk are in, the disk is left in
+pub is_left : (cluster : Cluster) (v : View) (state : State) → IsAt cluster v state → IsLeft v state
+is_left cluster v state at = record { counted = (let counted = at.counted in omega (arith, counted)); stored = at.stored }
+
 -- the line under way is ended and answered
-pub closes : (hosts : List (List ℕ)) (first : State) (given before : List ℕ) (old new : Session) (faults after : ℕ) (was now : Option (List ℕ)) (line : List ℕ) (state : State)
-    → Reached hosts first given before old faults was
+pub closes : (hosts : List (List ℕ)) (first : State) (given before : List ℕ) (old new : Session) (v w : View) (was now : Option (List ℕ)) (line : List ℕ) (cluster : Cluster)
+    → Reached hosts first given before old v was
     → line ≡ old.partial.items → length line ≤ 1048576
-    → ForSome was (λ written. IsAnswered hosts (state_of old.cluster faults) line written now state)
-    → state_of new.cluster after ≡ state → new.partial.items ≡ [] → new.lines ≡ old.lines + 1 → new.passed ≡ old.passed + (length line + 1)
-    → Reached hosts first (given ++ line_feed ∷ []) before new after now
-closes hosts first given before old new faults after was now line state so_far line_is short answered state_is empty lines passed =
-    let here : IsAnswered hosts (state_of old.cluster faults) line (before ++ report_of so_far.answers) now state = answered (before ++ report_of so_far.answers) so_far.told in
+    → ForSome was (λ written. (state : State) → IsAt old.cluster v state → IsAnswered hosts state line written now cluster w)
+    → new.cluster ≡ cluster → new.partial.items ≡ [] → new.lines ≡ old.lines + 1 → new.passed ≡ old.passed + (length line + 1)
+    → Reached hosts first (given ++ line_feed ∷ []) before new w now
+closes hosts first given before old new v w was now line cluster so_far line_is short answered cluster_is empty lines passed =
+    let here : IsAnswered hosts so_far.last line (before ++ report_of so_far.answers) now cluster w = answered (before ++ report_of so_far.answers) so_far.told so_far.last so_far.at in
     let split : IsSplit given so_far.lines line = subst (λ (l : List ℕ). IsSplit given so_far.lines l) (sym line_is) so_far.split in
-    let more = grown hosts first so_far.lines so_far.commands so_far.answers (state_of old.cluster faults) line here.text state so_far.spelled so_far.run here.step in
+    let more = grown hosts first so_far.lines so_far.commands so_far.answers so_far.last line here.text here.new so_far.spelled so_far.run here.step in
     record {
       lines = so_far.lines ++ line ∷ [];
       commands = more.commands;
@@ -100,16 +107,18 @@ closes hosts first given before old new faults after was now line state so_far l
       split = rw empty (split_more given so_far.lines line split);
       short = all_append IsShort so_far.lines (line ∷ []) so_far.short (short, tt);
       spelled = more.spelled;
-      run = rw state_is more.run;
+      last = here.new;
+      at = subst (λ (c : Cluster). IsAt c w here.new) (sym cluster_is) here.at;
+      run = more.run;
       counted = rw (lines, so_far.counted) (sym (length-append so_far.lines (line ∷ [])));
       measured = rw (passed, so_far.measured) (sym (length-whole_more so_far.lines line));
       told = here.told ∙ ap Some (append_assoc before (report_of so_far.answers) here.text ∙ ap (λ (t : List ℕ). before ++ t) (sym more.report_is));
     }
 
 -- more has come of the line under way
-pub holds : (hosts : List (List ℕ)) (first : State) (given before : List ℕ) (old new : Session) (more : List ℕ) (faults : ℕ) (written : Option (List ℕ))
-    → Holds old new more → HasNoLineFeed more → Reached hosts first given before old faults written → Reached hosts first (given ++ more) before new faults written
-holds hosts first given before old new more faults written held no_feed so_far = record {
+pub holds : (hosts : List (List ℕ)) (first : State) (given before : List ℕ) (old new : Session) (more : List ℕ) (v : View) (written : Option (List ℕ))
+    → Holds old new more → HasNoLineFeed more → Reached hosts first given before old v written → Reached hosts first (given ++ more) before new v written
+holds hosts first given before old new more v written held no_feed so_far = record {
   lines = so_far.lines;
   commands = so_far.commands;
   answers = so_far.answers;
@@ -120,20 +129,42 @@ holds hosts first given before old new more faults written held no_feed so_far =
   };
   short = so_far.short;
   spelled = so_far.spelled;
-  run = rw held.cluster so_far.run;
+  last = so_far.last;
+  at = subst (λ (c : Cluster). IsAt c v so_far.last) (sym held.cluster) so_far.at;
+  run = so_far.run;
   counted = held.lines ∙ so_far.counted;
   measured = held.passed ∙ so_far.measured;
   told = so_far.told;
 }
 
+-- the ended lines are a script of their own, and this is its report
+pub report_of_lines : (hosts : List (List ℕ)) (first last : State) (lines : List (List ℕ)) (commands : List Command) (answers : List Answer)
+    → AllByRecursion HasNoLineFeed lines → AllByRecursion IsShort lines → length lines ≤ 100000 → length (flat_map ended lines) ≤ 67108864
+    → AreCommands lines commands → Run hosts first commands answers last → IsReportOf hosts first (flat_map ended lines) (report_of answers) last
+report_of_lines hosts first last lines commands answers each short few small spelled run = record {
+  commands = commands;
+  answers = answers;
+  script_is = record {
+    lines = lines;
+    piece = [];
+    split = record { whole = sym (append-nil (flat_map ended lines)); each = each; rest = tt };
+    spelled = rw (append-nil lines) spelled;
+    short = rw (append-nil lines) short;
+    few = rw (append-nil lines) few;
+    small = small;
+  };
+  run = run;
+  lines = refl;
+}
+
 -- what is under way is a line, and is answered: what has come is a script of its own
-pub report_with : (hosts : List (List ℕ)) (first : State) (script before : List ℕ) (session : Session) (faults : ℕ) (was : Option (List ℕ)) (line text : List ℕ) (state : State)
-    → (so_far : Reached hosts first script before session faults was)
+pub report_with : (hosts : List (List ℕ)) (first : State) (script before : List ℕ) (session : Session) (v : View) (was : Option (List ℕ)) (line text : List ℕ) (state : State)
+    → (so_far : Reached hosts first script before session v was)
     → line ≡ session.partial.items → length line ≤ 1048576
     → (0 < length line → session.lines < 100000) → session.lines ≤ 100000 → session.passed + length line ≤ 67108864
-    → LineStep hosts (state_of session.cluster faults) line text state
+    → LineStep hosts so_far.last line text state
     → IsReportOf hosts first script (report_of so_far.answers ++ text) state
-report_with hosts first script before session faults was [] text state so_far line_is short below few small step =
+report_with hosts first script before session v was [] text state so_far line_is short below few small step =
     let split : IsSplit script so_far.lines [] = subst (λ (l : List ℕ). IsSplit script so_far.lines l) (sym line_is) so_far.split in
     record {
       commands = so_far.commands;
@@ -150,10 +181,10 @@ report_with hosts first script before session faults was [] text state so_far li
       run = subst (λ (s : State). Run hosts first so_far.commands so_far.answers s) (sym step.1) so_far.run;
       lines = ap (λ (t : List ℕ). report_of so_far.answers ++ t) step.0 ∙ append-nil (report_of so_far.answers);
     }
-report_with hosts first script before session faults was (byte ∷ bytes) text state so_far line_is short below few small step =
+report_with hosts first script before session v was (byte ∷ bytes) text state so_far line_is short below few small step =
     let line : List ℕ = byte ∷ bytes in
     let split : IsSplit script so_far.lines (byte ∷ bytes) = subst (λ (l : List ℕ). IsSplit script so_far.lines l) (sym line_is) so_far.split in
-    let more = grown hosts first so_far.lines so_far.commands so_far.answers (state_of session.cluster faults) (byte ∷ bytes) text state so_far.spelled so_far.run step in
+    let more = grown hosts first so_far.lines so_far.commands so_far.answers so_far.last (byte ∷ bytes) text state so_far.spelled so_far.run step in
     record {
       commands = more.commands;
       answers = more.answers;
@@ -171,35 +202,47 @@ report_with hosts first script before session faults was (byte ∷ bytes) text s
     }
 
 -- the piece behind the last line feed is answered too, and the script is at its end
-pub finished : (hosts : List (List ℕ)) (first : State) (script before : List ℕ) (session : Session) (faults : ℕ) (was now : Option (List ℕ)) (line : List ℕ) (state : State)
-    → Reached hosts first script before session faults was
+pub finished : (hosts : List (List ℕ)) (first : State) (script before : List ℕ) (session : Session) (v w : View) (was now : Option (List ℕ)) (line : List ℕ) (cluster : Cluster)
+    → Reached hosts first script before session v was
     → line ≡ session.partial.items → length line ≤ 1048576
     → (0 < length line → session.lines < 100000) → session.lines ≤ 100000 → session.passed + length line ≤ 67108864
-    → ForSome was (λ written. IsAnswered hosts (state_of session.cluster faults) line written now state)
-    → IsReported hosts first script before now state
-finished hosts first script before session faults was now line state so_far line_is short below few small answered =
-    let here : IsAnswered hosts (state_of session.cluster faults) line (before ++ report_of so_far.answers) now state = answered (before ++ report_of so_far.answers) so_far.told in
+    → ForSome was (λ written. (state : State) → IsAt session.cluster v state → IsAnswered hosts state line written now cluster w)
+    → IsWhollyReported hosts first script before now cluster w
+finished hosts first script before session v w was now line cluster so_far line_is short below few small answered =
+    let here : IsAnswered hosts so_far.last line (before ++ report_of so_far.answers) now cluster w = answered (before ++ report_of so_far.answers) so_far.told so_far.last so_far.at in
     record {
-      report = report_of so_far.answers ++ here.text;
-      is = report_with hosts first script before session faults was line here.text state so_far line_is short below few small here.step;
-      told = here.told ∙ ap Some (append_assoc before (report_of so_far.answers) here.text);
+      last = here.new;
+      at = here.at;
+      is = record {
+        report = report_of so_far.answers ++ here.text;
+        is = report_with hosts first script before session v was line here.text here.new so_far line_is short below few small here.step;
+        told = here.told ∙ ap Some (append_assoc before (report_of so_far.answers) here.text);
+      };
     }
 
 -- at the start nothing is answered
-pub starts : (hosts : List (List ℕ)) (faults : ℕ) (before : List ℕ) (session : Session) (written : Option (List ℕ))
-    → session.partial.items ≡ [] → session.lines ≡ 0 → session.passed ≡ 0 → state_of session.cluster faults ≡ begun faults → written ≡ Some before
-    → Reached hosts (begun faults) [] before session faults written
-starts hosts faults before session written empty lines passed state told = record {
-  lines = [];
-  commands = [];
-  answers = [];
-  split = record { whole = sym empty; each = tt; rest = rw empty tt };
-  short = tt;
-  spelled = tt;
-  run = state;
-  counted = lines;
-  measured = passed;
-  told = told ∙ ap Some (sym (append-nil before));
+pub starts : (hosts : List (List ℕ)) (first : State) (script before : List ℕ) (session : Session) (v : View) (left written : Option (List ℕ))
+    → (session.partial.items ≡ []) × (session.lines ≡ 0) × (session.passed ≡ 0) → session.cluster ≡ Closed
+    → IsAt Closed v first → left ≡ Some script → written ≡ Some before → Underway hosts first script before session v left written
+starts hosts first script before session v left written empty closed at left_is told = record {
+  given = [];
+  rest = script;
+  left_is = left_is;
+  script_is = refl;
+  reached = record {
+    lines = [];
+    commands = [];
+    answers = [];
+    split = record { whole = sym empty.0; each = tt; rest = rw empty.0 tt };
+    short = tt;
+    spelled = tt;
+    last = first;
+    at = subst (λ (c : Cluster). IsAt c v first) (sym closed) at;
+    run = refl;
+    counted = empty.1;
+    measured = empty.2;
+    told = told ∙ ap Some (sym (append-nil before));
+  };
 }
 
 -- a piece, of which a front is taken with the line feed behind it
@@ -208,12 +251,12 @@ piece_goes_on piece front rest line after whole split =
     whole ∙ ap (λ (t : List ℕ). front ++ t) (split ∙ sym (append_assoc line (line_feed ∷ []) after)) ∙ sym (append_assoc front (ended line) after)
 
 -- a piece was read and answered
-pub takes : (hosts : List (List ℕ)) (first : State) (script before : List ℕ) (old new : Session) (faults faults_after : ℕ) (left after was now : Option (List ℕ)) (count : ℕ) (piece : List ℕ)
-    → Underway hosts first script before old faults left was
+pub takes : (hosts : List (List ℕ)) (first : State) (script before : List ℕ) (old new : Session) (v w : View) (left after was now : Option (List ℕ)) (count : ℕ) (piece : List ℕ)
+    → Underway hosts first script before old v left was
     → ForSome left (λ bytes. piece ≡ take count bytes) → ForSome left (λ bytes. after ≡ Some (drop count bytes))
-    → ((first : State) (given before : List ℕ) → Reached hosts first given before old faults was → Reached hosts first (given ++ piece) before new faults_after now)
-    → Underway hosts first script before new faults_after after now
-takes hosts first script before old new faults faults_after left after was now count piece so_far piece_is after_is goes = record {
+    → ((first : State) (given before : List ℕ) → Reached hosts first given before old v was → Reached hosts first (given ++ piece) before new w now)
+    → Underway hosts first script before new w after now
+takes hosts first script before old new v w left after was now count piece so_far piece_is after_is goes = record {
   given = so_far.given ++ piece;
   rest = drop count so_far.rest;
   left_is = after_is so_far.rest so_far.left_is;
@@ -222,15 +265,15 @@ takes hosts first script before old new faults faults_after left after was now c
 }
 
 -- the source is at its end
-pub ends : (hosts : List (List ℕ)) (first : State) (script before : List ℕ) (session : Session) (faults : ℕ) (left was : Option (List ℕ))
-    → Underway hosts first script before session faults left was → ForSome left (λ bytes. bytes ≡ []) → Reached hosts first script before session faults was
-ends hosts first script before session faults left was so_far none =
-    subst (λ (s : List ℕ). Reached hosts first s before session faults was) (sym (so_far.script_is ∙ ap (λ (t : List ℕ). so_far.given ++ t) (none so_far.rest so_far.left_is) ∙ append-nil so_far.given)) so_far.reached
+pub ends : (hosts : List (List ℕ)) (first : State) (script before : List ℕ) (session : Session) (v : View) (left was : Option (List ℕ))
+    → Underway hosts first script before session v left was → ForSome left (λ bytes. bytes ≡ []) → Reached hosts first script before session v was
+ends hosts first script before session v left was so_far none =
+    subst (λ (s : List ℕ). Reached hosts first s before session v was) (sym (so_far.script_is ∙ ap (λ (t : List ℕ). so_far.given ++ t) (none so_far.rest so_far.left_is) ∙ append-nil so_far.given)) so_far.reached
 
 -- a read of nothing leaves what was left
-pub nothing_read : (hosts : List (List ℕ)) (first : State) (script before : List ℕ) (session : Session) (faults : ℕ) (left after was : Option (List ℕ))
-    → Underway hosts first script before session faults left was → ForSome left (λ bytes. after ≡ Some bytes) → Underway hosts first script before session faults after was
-nothing_read hosts first script before session faults left after was so_far same = record {
+pub nothing_read : (hosts : List (List ℕ)) (first : State) (script before : List ℕ) (session : Session) (v : View) (left after was : Option (List ℕ))
+    → Underway hosts first script before session v left was → ForSome left (λ bytes. after ≡ Some bytes) → Underway hosts first script before session v after was
+nothing_read hosts first script before session v left after was so_far same = record {
   given = so_far.given;
   rest = so_far.rest;
   left_is = same so_far.rest so_far.left_is;
@@ -239,7 +282,7 @@ nothing_read hosts first script before session faults left after was so_far same
 }
 
 -- a read of no byte leaves what was left
-pub read_none : (hosts : List (List ℕ)) (first : State) (script before : List ℕ) (session : Session) (faults : ℕ) (left after was : Option (List ℕ)) (count : ℕ)
-    → count ≡ 0 → Underway hosts first script before session faults left was → ForSome left (λ bytes. after ≡ Some (drop count bytes)) → Underway hosts first script before session faults after was
-read_none hosts first script before session faults left after was count none so_far rest =
-    nothing_read hosts first script before session faults left after was so_far (λ bytes told. rest bytes told ∙ ap (λ (n : ℕ). Some (drop n bytes)) none)
+pub read_none : (hosts : List (List ℕ)) (first : State) (script before : List ℕ) (session : Session) (v : View) (left after was : Option (List ℕ)) (count : ℕ)
+    → count ≡ 0 → Underway hosts first script before session v left was → ForSome left (λ bytes. after ≡ Some (drop count bytes)) → Underway hosts first script before session v after was
+read_none hosts first script before session v left after was count none so_far rest =
+    nothing_read hosts first script before session v left after was so_far (λ bytes told. rest bytes told ∙ ap (λ (n : ℕ). Some (drop n bytes)) none)

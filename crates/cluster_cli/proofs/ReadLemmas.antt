@@ -3,16 +3,18 @@ use Rattle.std.proofs.Common.{◌≡◌, ℕ, List, ◌++◌, length-append, ref
 use Rattle.std.specs.Option.{ForSome}
 use Rattle.report_lines.specs.Line.{fault_line}
 use Rattle.report_lines.specs.declared.fault.Fault.TheVariants.{Read}
+use Rattle.disk_trait.specs.View.{View}
 use Rattle.cluster_cli.specs.State.{State, Span, up_to}
 use Rattle.cluster_cli.specs.Report.{report_of}
 use Rattle.cluster_cli.specs.Reads.{IsReportedSoFar, IsReportedToRead}
 use Rattle.cluster_cli.specs.Progress.{Underway}
 use Rattle.cluster_cli.specs.declared.session.Session.{Session}
+use Rattle.cluster_cli.proofs.ProgressLemmas.{is_left}
 
 -- what is answered, without the session
-pub reported_so_far : (hosts : List (List ℕ)) (first : State) (script before : List ℕ) (session : Session) (faults : ℕ) (left written : Option (List ℕ))
-    → Underway hosts first script before session faults left written → IsReportedSoFar hosts (up_to first faults) script before left written
-reported_so_far hosts first script before session faults left written so_far =
+pub reported_so_far : (hosts : List (List ℕ)) (first : State) (script before : List ℕ) (session : Session) (v : View) (left written : Option (List ℕ))
+    → Underway hosts first script before session v left written → IsReportedSoFar hosts (up_to first v) script before left written
+reported_so_far hosts first script before session v left written so_far =
     let few = session.few in
     let small = session.small in
     let size = session.partial.ok.0 in
@@ -26,7 +28,7 @@ reported_so_far hosts first script before session faults left written so_far =
         piece = session.partial.items;
         commands = reached.commands;
         answers = reached.answers;
-        last = _;
+        last = reached.last;
         left_is = so_far.left_is;
         script_is = so_far.script_is;
         split = reached.split;
@@ -35,7 +37,7 @@ reported_so_far hosts first script before session faults left written so_far =
         small = rw reached.split.whole (simp length-append (omega (arith, size, small, reached.measured)));
         spelled = reached.spelled;
         run = reached.run;
-        counted = omega arith;
+        at_end = is_left session.cluster v reached.last reached.at;
         report_is = refl;
       };
       told = reached.told;

@@ -4,6 +4,14 @@ use Rattle.cluster_cli.specs.declared.status.Status.{Status}
 use Rattle.cluster_cli.specs.declared.status.Status.TheVariants.{Done, WordFault, ScriptFault, ReadFault, WriteFault, NoMemory}
 use Rattle.cluster_cli.specs.Codes.{code_of}
 
+pub done : (status : Status) → code_of status ≡ 0 → status ≡ Done
+done Done is = refl
+done WordFault is = cc
+done ScriptFault is = cc
+done ReadFault is = cc
+done WriteFault is = cc
+done NoMemory is = cc
+
 pub word_fault : (status : Status) → code_of status ≡ 1 → status ≡ WordFault
 word_fault Done is = cc
 word_fault WordFault is = refl

@@ -1,12 +1,17 @@
 -- What stands in a report that was cut short.
-use Rattle.std.specs.Prelude.{◌≡◌, ℕ, ◌≤◌, List, ◌++◌, Option, Some}
+use Rattle.std.specs.Prelude.{◌≡◌, ◌⊎◌, ℕ, List, ◌++◌, Option, Some}
+use Rattle.disk_trait.specs.View.{View}
+use Rattle.script_lines.specs.Form.{IsLineOf}
 use Rattle.report_lines.specs.Line.{fault_line}
 use Rattle.report_lines.specs.declared.fault.Fault.TheVariants.{Script, Read}
 use Rattle.script_lines.specs.declared.command.Command.{Command}
 use Rattle.script_lines.specs.declared.answer.Answer.{Answer}
 use Rattle.cluster_cli.specs.State.{State, Span, Run}
 use Rattle.cluster_cli.specs.Report.{report_of, IsReportOf}
-use Rattle.cluster_cli.specs.Faults.{HasFirstFault, StopsAt}
+use Rattle.cluster_cli.specs.Script.{HasNoLineFeed}
+use Rattle.cluster_cli.specs.Breaks.{Breaks}
+use Rattle.cluster_cli.specs.Kept.{IsLeft}
+use Rattle.cluster_cli.specs.Faults.{FollowsLine, HasFirstFault, StopsAt}
 use Rattle.cluster_cli.specs.Reads.{IsReportSoFar}
 use Rattle.cluster_cli.specs.Progress.{LineStep}
 use Rattle.cluster_cli.specs.declared.session.Stop.{Stop}
@@ -19,6 +24,18 @@ pub record IsBegun (text before : List ℕ) (written : Option (List ℕ)) : Type
   pub text_is : text ≡ front ++ rest
   pub told : written ≡ Some (before ++ front)
 
+-- Behind its last answer the run has gone no further, or the rest of the script begins with a command that was broken off.
+pub data GoesTo (hosts : List (List ℕ)) (last : State) (rest : List ℕ) (new : State) : Type 0 where
+  no_further : new ≡ last → GoesTo hosts last rest new
+  into_line : (line behind : List ℕ) (command : Command) → rest ≡ line ++ behind → HasNoLineFeed line → FollowsLine behind → IsLineOf line command
+      → Breaks hosts last command new → GoesTo hosts last rest new
+
+-- so far the run has come where it ends, and so it leaves the disk
+pub record EndsBehind (hosts : List (List ℕ)) (last : State) (rest : List ℕ) (v : View) : Type 0 where
+  pub new : State
+  pub gone : GoesTo hosts last rest new
+  pub at_end : IsLeft v new
+
 -- the report of a front of the script
 pub record IsFrontReport (hosts : List (List ℕ)) (span : Span) (script report : List ℕ) : Type 0 where
   pub front : List ℕ
@@ -26,7 +43,7 @@ pub record IsFrontReport (hosts : List (List ℕ)) (span : Span) (script report 
   pub last : State
   pub script_is : script ≡ front ++ rest
   pub is : IsReportOf hosts span.first front report last
-  pub counted : last.faults ≤ span.count
+  pub ends : EndsBehind hosts last rest span.disk
 
 -- the report of the lines before the first that is faulty, and the line that tells its number
 pub record IsFaultReport (hosts : List (List ℕ)) (span : Span) (script report : List ℕ) : Type 0 where
@@ -36,7 +53,7 @@ pub record IsFaultReport (hosts : List (List ℕ)) (span : Span) (script report 
   pub last : State
   pub faulty : HasFirstFault script n commands
   pub run : Run hosts span.first commands answers last
-  pub counted : last.faults ≤ span.count
+  pub at_end : IsLeft span.disk last
   pub report_is : report ≡ report_of answers ++ fault_line (Script n)
 
 -- the report of the lines whose line feed the source gave, and the line of its fault
@@ -63,10 +80,16 @@ pub record IsCutFront (hosts : List (List ℕ)) (span : Span) (script before : L
   pub whole : IsFrontReport hosts span script report
   pub is_begun : IsBegun report before written
 
+-- with the line the run has gone no further, or into its command, and so it leaves the disk
+pub record LineEnds (hosts : List (List ℕ)) (old : State) (line : List ℕ) (v : View) : Type 0 where
+  pub new : State
+  pub gone : (new ≡ old) ⊎ (command : Command) × IsLineOf line command × Breaks hosts old command new
+  pub at_end : IsLeft v new
+
 -- of the line's answer nothing was written, or a front
-pub data IsCutLine (hosts : List (List ℕ)) (old : State) (line before : List ℕ) (written : Option (List ℕ)) (count : ℕ) : Type 0 where
-  has_nothing : written ≡ Some before → IsCutLine hosts old line before written count
-  has_front : (text : List ℕ) (new : State) → LineStep hosts old line text new → new.faults ≤ count → IsBegun text before written → IsCutLine hosts old line before written count
+pub data IsCutLine (hosts : List (List ℕ)) (old : State) (line before : List ℕ) (written : Option (List ℕ)) (v : View) : Type 0 where
+  has_nothing : written ≡ Some before → LineEnds hosts old line v → IsCutLine hosts old line before written v
+  has_front : (text : List ℕ) (new : State) → LineStep hosts old line text new → IsLeft v new → IsBegun text before written → IsCutLine hosts old line before written v
 
 -- how far a report has come whose run stops for another cause than the source's
 abbrev pub Leaves : List (List ℕ) → Span → List ℕ → List ℕ → Stop → Option (List ℕ) → Type 0

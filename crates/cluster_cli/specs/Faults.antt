@@ -7,6 +7,7 @@ use Rattle.script_lines.specs.Form.{HasNoForm}
 use Rattle.report_lines.specs.Line.{fault_line}
 use Rattle.report_lines.specs.declared.fault.Fault.TheVariants.{Script}
 use Rattle.cluster_cli.specs.Script.{line_feed, ended, HasNoLineFeed, most_line_bytes, most_lines, most_script_bytes, IsShort, AreCommands}
+use Rattle.cluster_cli.specs.Kept.{IsLeft}
 use Rattle.cluster_cli.specs.State.{State, Span, Run}
 use Rattle.cluster_cli.specs.Report.{report_of}
 
@@ -52,7 +53,7 @@ pub record StopsAt (hosts : List (List ℕ)) (span : Span) (script before : List
   pub last : State
   pub faulty : HasFirstFault script n commands
   pub run : Run hosts span.first commands answers last
-  pub counted : last.faults ≤ span.count
+  pub at_end : IsLeft span.disk last
   pub told : written ≡ Some (before ++ report_of answers)
 
 -- the report of the lines before the first that is faulty, and the line that tells its number
@@ -63,5 +64,5 @@ pub record IsReportedToFault (hosts : List (List ℕ)) (span : Span) (script bef
   pub last : State
   pub faulty : HasFirstFault script n commands
   pub run : Run hosts span.first commands answers last
-  pub counted : last.faults ≤ span.count
+  pub at_end : IsLeft span.disk last
   pub told : written ≡ Some (before ++ report_of answers ++ fault_line (Script n))

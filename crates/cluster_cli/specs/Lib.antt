@@ -1,4 +1,5 @@
 pub mod Answered
+pub mod Breaks
 pub mod Codes
 pub mod Cuts
 pub mod Ends
@@ -10,4 +11,4 @@ pub mod Report
 pub mod Script
 pub mod State
 pub mod Stops
-pub mod Words
+pub mod Told

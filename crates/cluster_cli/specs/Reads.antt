@@ -6,6 +6,7 @@ use Rattle.script_lines.specs.declared.answer.Answer.{Answer}
 use Rattle.report_lines.specs.Line.{fault_line}
 use Rattle.report_lines.specs.declared.fault.Fault.TheVariants.{Read}
 use Rattle.cluster_cli.specs.Script.{IsSplit, most_lines, most_script_bytes, IsShort, AreCommands}
+use Rattle.cluster_cli.specs.Kept.{IsLeft}
 use Rattle.cluster_cli.specs.State.{State, Span, Run}
 use Rattle.cluster_cli.specs.Report.{report_of}
 
@@ -27,7 +28,7 @@ pub record IsReportSoFar (hosts : List (List ℕ)) (span : Span) (script : List 
   pub small : length given ≤ most_script_bytes
   pub spelled : AreCommands lines commands
   pub run : Run hosts span.first commands answers last
-  pub counted : last.faults ≤ span.count
+  pub at_end : IsLeft span.disk last
   pub report_is : report ≡ report_of answers
 
 -- it stands behind what was written before

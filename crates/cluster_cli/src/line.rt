@@ -4,9 +4,10 @@ ghost use Rattle.std.specs.Option.{ForSome};
 ghost use Rattle.fault_count.specs.Rose.{Rose};
 ghost use Rattle.script_lines.specs.Form.{HasNoForm};
 ghost use Rattle.disk_trait.specs.Moments.{Onward};
-ghost use Rattle.cluster_cli.specs.Kept.{state_of, Fits};
-ghost use Rattle.cluster_cli.specs.Progress.{AnswerStep, IsAnswered};
-ghost use Rattle.cluster_cli.specs.Cuts.{IsCutLine};
+ghost use Rattle.cluster_cli.specs.State.{State};
+ghost use Rattle.cluster_cli.specs.Kept.{IsAt, Fits};
+ghost use Rattle.cluster_cli.specs.Progress.{IsReplied, IsAnswered};
+ghost use Rattle.cluster_cli.specs.Cuts.{IsCutLine, LineEnds};
 
 use crate::cluster::Cluster;
 use crate::command::obey;
@@ -29,10 +30,11 @@ pub fn answer_line<K: Sink, D: Disk>(
     number: u32,
 ) -> Result<(), Stop>
     requires fits { Fits cluster.old (D.view disk.old) }
-    ensures told { OnOk result (ForSome (K.written sink.old) (λ before. IsAnswered hosts.now (state_of cluster.old (D.view disk.old).faults) line.now before (K.written sink.new) (state_of cluster.new (D.view disk.new).faults))) }
-    ensures cut { OnErr result (ForSome (K.written sink.old) (λ before. IsCutLine hosts.now (state_of cluster.old (D.view disk.old).faults) line.now before (K.written sink.new) (D.view disk.new).faults)) }
+    ensures told { OnOk result (ForSome (K.written sink.old) (λ before. (state : State) → IsAt cluster.old (D.view disk.old) state → IsAnswered hosts.now state line.now before (K.written sink.new) cluster.new (D.view disk.new))) }
+    ensures cut { OnErr result (ForSome (K.written sink.old) (λ before. (state : State) → IsAt cluster.old (D.view disk.old) state → IsCutLine hosts.now state line.now before (K.written sink.new) (D.view disk.new))) }
     ensures form { (n : ℕ) → IsErrOf result (Stop.Faulty n) → (n ≡ number) × (line.now ≢ []) × HasNoForm line.now }
     ensures kept { (n : ℕ) → IsErrOf result (Stop.Faulty n) → K.written sink.new ≡ K.written sink.old }
+    ensures as_before { (n : ℕ) → IsErrOf result (Stop.Faulty n) → (state : State) → IsAt cluster.old (D.view disk.old) state → IsAt cluster.new (D.view disk.new) state }
     ensures fits { OnOk result (Fits cluster.new (D.view disk.new)) }
     ensures onward { Onward (D.view disk.old) (D.view disk.new) }
     ensures cause { IsErrOf result Stop.WriteFault → Rose (K.faults sink.old) (K.faults sink.new) }
@@ -57,8 +59,10 @@ fn reply_line<D: Disk>(
     number: u32,
 ) -> Result<Vec<u8>, Stop>
     requires fits { Fits cluster.old (D.view disk.old) }
-    ensures step { IfOk result (λ text. AnswerStep hosts.now (state_of cluster.old (D.view disk.old).faults) line.now text.items (state_of cluster.new (D.view disk.new).faults)) }
+    ensures step { IfOk result (λ text. (state : State) → IsAt cluster.old (D.view disk.old) state → IsReplied hosts.now state line.now text.items cluster.new (D.view disk.new)) }
+    ensures broken { OnErr result ((state : State) → IsAt cluster.old (D.view disk.old) state → LineEnds hosts.now state line.now (D.view disk.new)) }
     ensures form { (n : ℕ) → IsErrOf result (Stop.Faulty n) → (n ≡ number) × HasNoForm line.now }
+    ensures as_before { (n : ℕ) → IsErrOf result (Stop.Faulty n) → (state : State) → IsAt cluster.old (D.view disk.old) state → IsAt cluster.new (D.view disk.new) state }
     ensures fits { OnOk result (Fits cluster.new (D.view disk.new)) }
     ensures onward { Onward (D.view disk.old) (D.view disk.new) }
     ensures no_read { result ≢ Err Stop.ReadFault }

@@ -7,24 +7,25 @@ ghost use Rattle.report_lines.specs.declared.fault.Fault.TheVariants as faults;
 ghost use Rattle.script_lines.specs.declared.command.Command.{Command};
 ghost use Rattle.cluster_cli.specs.Codes.{IsOfNoPlan};
 ghost use Rattle.cluster_cli.specs.Cuts.{Leaves, IsCutShort};
-ghost use Rattle.cluster_cli.specs.Ends.{EndsWith, BeginsWith, IsSiteOf, HasLanes, AreDisks, From, IsReportedAndStored, EndsReport};
+ghost use Rattle.cluster_cli.specs.Ends.{EndsWith, BeginsWith, HasLanes, AreDisks, From, IsReportedAndStored, IsSurvived, EndsReport};
 ghost use Rattle.cluster_cli.specs.Faults.{IsReportedToFault};
-ghost use Rattle.cluster_cli.specs.Kept.{Fits};
+ghost use Rattle.cluster_cli.specs.Kept.{IsAt, Fits};
+ghost use Rattle.cluster_cli.specs.declared.cluster.Cluster.TheVariants.{Closed};
 ghost use Rattle.cluster_cli.specs.Progress.{Reached, Underway, taken_bytes};
 ghost use Rattle.cluster_cli.specs.Reads.{IsReportedSoFar, IsReportedToRead};
 ghost use Rattle.cluster_cli.specs.Script.{IsScriptOf};
-ghost use Rattle.cluster_cli.specs.State.{State, begun, up_to};
-ghost use Rattle.cluster_cli.specs.Words.{IsPlan, IsPlanned, HasNoPlan, words_of};
+ghost use Rattle.cluster_cli.specs.State.{State, up_to};
+ghost use Rattle.plan_words.specs.Words.{IsPlan, IsPlanned, IsSiteOf, HasNoPlan, words_of};
 ghost use Rattle.cluster_cli.specs.declared.session.Stop.{Stop};
 
 use crate::script::{begin, finish, take_piece};
 use crate::session::{Session, Stop};
 use crate::site::{Ended, Site};
 use crate::status::{Status, code};
-use crate::words::{WordFault, site_plan};
 use byte_streams::{Sink, SinkRefusal, Source, write_all};
 use cache_key::HostName;
 use disk_trait::Disk;
+use plan_words::{WordFault, site_plan};
 use report_lines::{Fault, print_fault};
 use std::alloc::{AllocError, Global};
 
@@ -48,20 +49,23 @@ pub fn run_steps<R, S: Source, K: Sink, D: Disk, V>(
     requires lanes { HasLanes site.lanes.items site.partitions (vec_len site.hosts) }
 
     // The whole script was answered, and what was changed is stored.
-    ensures report { result.status ≡ 0 → (script before : List ℕ) (old new : D) → S.left source.old ≡ Some script → K.written sink.old ≡ Some before → AreDisks site.lanes.items result.site.lanes.items old new → IsReportedAndStored site.hosts.items script before (D.view old) (D.view new) (K.written sink.new) }
+    ensures report { result.status ≡ 0 → (script before : List ℕ) (old new : D) → S.left source.old ≡ Some script → K.written sink.old ≡ Some before → AreDisks site.lanes.items result.site.lanes.items old new → From (D.view old) (λ first. IsReportedAndStored site.hosts.items (up_to first (D.view new)) script before (K.written sink.new)) }
+
+    // However a run ends, and wherever a device call or a stop cut it short, what was answered is kept.
+    ensures survives { IsPlanned (words_of words.now) → (script before : List ℕ) (old new : D) → S.left source.old ≡ Some script → K.written sink.old ≡ Some before → AreDisks site.lanes.items result.site.lanes.items old new → From (D.view old) (λ first. IsSurvived site.hosts.items (up_to first (D.view new)) script before (K.written sink.new)) }
 
     // What else ends a run.
     ensures words { result.status ≡ 1 → HasNoPlan (words_of words.now) }
     ensures told { result.status ≡ 1 → EndsWith faults.Words (K.written sink.old) (K.written sink.new) }
-    ensures faulty { result.status ≡ 2 → (script before : List ℕ) (old new : D) → S.left source.old ≡ Some script → K.written sink.old ≡ Some before → AreDisks site.lanes.items result.site.lanes.items old new → From (D.view old).faults (λ first. IsReportedToFault site.hosts.items (up_to first (D.view new).faults) script before (K.written sink.new)) }
+    ensures faulty { result.status ≡ 2 → (script before : List ℕ) (old new : D) → S.left source.old ≡ Some script → K.written sink.old ≡ Some before → AreDisks site.lanes.items result.site.lanes.items old new → From (D.view old) (λ first. IsReportedToFault site.hosts.items (up_to first (D.view new)) script before (K.written sink.new)) }
     ensures no_plan { HasNoPlan (words_of words.now) → (result.status ≢ 0) × (result.status ≢ 2) × (result.status ≢ 3) }
     ensures read { result.status ≡ 3 → Rose (S.faults source.old) (S.faults source.new) }
-    ensures stopped { result.status ≡ 3 → (script before : List ℕ) (old new : D) → S.left source.old ≡ Some script → K.written sink.old ≡ Some before → AreDisks site.lanes.items result.site.lanes.items old new → From (D.view old).faults (λ first. IsReportedToRead site.hosts.items (up_to first (D.view new).faults) script before (S.left source.new) (K.written sink.new)) }
+    ensures stopped { result.status ≡ 3 → (script before : List ℕ) (old new : D) → S.left source.old ≡ Some script → K.written sink.old ≡ Some before → AreDisks site.lanes.items result.site.lanes.items old new → From (D.view old) (λ first. IsReportedToRead site.hosts.items (up_to first (D.view new)) script before (S.left source.new) (K.written sink.new)) }
     ensures write { result.status ≡ 4 → Rose (K.faults sink.old) (K.faults sink.new) }
     ensures known { result.status ≤ 5 }
 
     // What is written where a run ends with 4 or 5 is a front of such a text.
-    ensures cut { IsPlanned (words_of words.now) → (result.status ≡ 4) ⊎ (result.status ≡ 5) → (script before : List ℕ) (old new : D) → S.left source.old ≡ Some script → K.written sink.old ≡ Some before → AreDisks site.lanes.items result.site.lanes.items old new → From (D.view old).faults (λ first. IsCutShort site.hosts.items (up_to first (D.view new).faults) script before (S.left source.new) (K.written sink.new)) }
+    ensures cut { IsPlanned (words_of words.now) → (result.status ≡ 4) ⊎ (result.status ≡ 5) → (script before : List ℕ) (old new : D) → S.left source.old ≡ Some script → K.written sink.old ≡ Some before → AreDisks site.lanes.items result.site.lanes.items old new → From (D.view old) (λ first. IsCutShort site.hosts.items (up_to first (D.view new)) script before (S.left source.new) (K.written sink.new)) }
     ensures cut_words { HasNoPlan (words_of words.now) → BeginsWith faults.Words (K.written sink.old) (K.written sink.new) }
 
     // A good script is answered, unless a stream fails or memory is wanted.
@@ -89,10 +93,9 @@ fn run_words<S: Source, K: Sink, D: Disk, V>(
 ) -> Status
     requires site { IsSiteOf (words_of words.now) site.old.hosts.items site.old.partitions }
     requires lanes { HasLanes site.old.lanes.items site.old.partitions (vec_len site.old.hosts) }
-    ensures report { result ≡ Status.Done → (script before : List ℕ) (old new : D) → S.left source.old ≡ Some script → K.written sink.old ≡ Some before → AreDisks site.old.lanes.items site.new.lanes.items old new → IsReportedAndStored site.old.hosts.items script before (D.view old) (D.view new) (K.written sink.new) }
     ensures words { result ≡ Status.WordFault → HasNoPlan (words_of words.now) }
     ensures told { result ≡ Status.WordFault → EndsWith faults.Words (K.written sink.old) (K.written sink.new) }
-    ensures ends { (HasNoPlan (words_of words.now) → ⊥) → (script before : List ℕ) (old new : D) → S.left source.old ≡ Some script → K.written sink.old ≡ Some before → AreDisks site.old.lanes.items site.new.lanes.items old new → From (D.view old).faults (λ first. EndsReport site.old.hosts.items (up_to first (D.view new).faults) script before result (S.left source.new) (K.written sink.new)) }
+    ensures ends { (HasNoPlan (words_of words.now) → ⊥) → (script before : List ℕ) (old new : D) → S.left source.old ≡ Some script → K.written sink.old ≡ Some before → AreDisks site.old.lanes.items site.new.lanes.items old new → From (D.view old) (λ first. EndsReport site.old.hosts.items (up_to first (D.view new)) script before result (S.left source.new) (K.written sink.new)) }
     ensures no_plan { HasNoPlan (words_of words.now) → IsOfNoPlan result }
     ensures cut_words { HasNoPlan (words_of words.now) → BeginsWith faults.Words (K.written sink.old) (K.written sink.new) }
     ensures read { result ≡ Status.ReadFault → Rose (S.faults source.old) (S.faults source.new) }
@@ -123,9 +126,8 @@ fn run_plan<S: Source, K: Sink, D: Disk>(
     sink: &mut K,
     disk: &mut D,
 ) -> Status
-    ensures report { result ≡ Status.Done → (script before : List ℕ) → S.left source.old ≡ Some script → K.written sink.old ≡ Some before → IsReportedAndStored hosts.now script before (D.view disk.old) (D.view disk.new) (K.written sink.new) }
     ensures words { result ≢ Status.WordFault }
-    ensures ends { (script before : List ℕ) → S.left source.old ≡ Some script → K.written sink.old ≡ Some before → From (D.view disk.old).faults (λ first. EndsReport hosts.now (up_to first (D.view disk.new).faults) script before result (S.left source.new) (K.written sink.new)) }
+    ensures ends { (script before : List ℕ) → S.left source.old ≡ Some script → K.written sink.old ≡ Some before → From (D.view disk.old) (λ first. EndsReport hosts.now (up_to first (D.view disk.new)) script before result (S.left source.new) (K.written sink.new)) }
     ensures read { result ≡ Status.ReadFault → Rose (S.faults source.old) (S.faults source.new) }
     ensures write { result ≡ Status.WriteFault → Rose (K.faults sink.old) (K.faults sink.new) }
     ensures onward { Onward (D.view disk.old) (D.view disk.new) }
@@ -174,9 +176,9 @@ fn run_script<S: Source, K: Sink, D: Disk>(
 ) -> Result<(), Stop>
     requires first { IsSettled (D.view disk.old) 0 }
     requires other { IsSettled (D.view disk.old) 1 }
-    ensures told { OnOk result ((script before : List ℕ) → S.left source.old ≡ Some script → K.written sink.old ≡ Some before → IsReportedAndStored hosts.now script before (D.view disk.old) (D.view disk.new) (K.written sink.new)) }
-    ensures stops { (stop : Stop) → IsErrOf result stop → (script before : List ℕ) → S.left source.old ≡ Some script → K.written sink.old ≡ Some before → Leaves hosts.now (up_to (begun (D.view disk.old).faults) (D.view disk.new).faults) script before stop (K.written sink.new) }
-    ensures stopped { IsErrOf result Stop.ReadFault → (script before : List ℕ) → S.left source.old ≡ Some script → K.written sink.old ≡ Some before → IsReportedSoFar hosts.now (up_to (begun (D.view disk.old).faults) (D.view disk.new).faults) script before (S.left source.new) (K.written sink.new) }
+    ensures told { OnOk result ((first : State) (script before : List ℕ) → IsAt Closed (D.view disk.old) first → S.left source.old ≡ Some script → K.written sink.old ≡ Some before → IsReportedAndStored hosts.now (up_to first (D.view disk.new)) script before (K.written sink.new)) }
+    ensures stops { (stop : Stop) → IsErrOf result stop → (first : State) (script before : List ℕ) → IsAt Closed (D.view disk.old) first → S.left source.old ≡ Some script → K.written sink.old ≡ Some before → Leaves hosts.now (up_to first (D.view disk.new)) script before stop (K.written sink.new) }
+    ensures stopped { IsErrOf result Stop.ReadFault → (first : State) (script before : List ℕ) → IsAt Closed (D.view disk.old) first → S.left source.old ≡ Some script → K.written sink.old ≡ Some before → IsReportedSoFar hosts.now (up_to first (D.view disk.new)) script before (S.left source.new) (K.written sink.new) }
     ensures read { IsErrOf result Stop.ReadFault → Rose (S.faults source.old) (S.faults source.new) }
     ensures write { IsErrOf result Stop.WriteFault → Rose (K.faults sink.old) (K.faults sink.new) }
     ensures later { K.faults sink.old ≤ K.faults sink.new }
@@ -209,9 +211,9 @@ fn answer_pieces<S: Source, K: Sink, D: Disk>(
 ) -> Result<(), Stop>
     requires room { 0 < length room.old }
     requires fits { Fits session.old.cluster (D.view disk.old) }
-    ensures told { OnOk result ((first : State) (script before : List ℕ) → Underway hosts.now first script before session.old (D.view disk.old).faults (S.left source.old) (K.written sink.old) → Reached hosts.now first script before session.new (D.view disk.new).faults (K.written sink.new)) }
-    ensures stops { (stop : Stop) → IsErrOf result stop → (first : State) (script before : List ℕ) → Underway hosts.now first script before session.old (D.view disk.old).faults (S.left source.old) (K.written sink.old) → Leaves hosts.now (up_to first (D.view disk.new).faults) script before stop (K.written sink.new) }
-    ensures stopped { IsErrOf result Stop.ReadFault → (first : State) (script before : List ℕ) → Underway hosts.now first script before session.old (D.view disk.old).faults (S.left source.old) (K.written sink.old) → Underway hosts.now first script before session.new (D.view disk.new).faults (S.left source.new) (K.written sink.new) }
+    ensures told { OnOk result ((first : State) (script before : List ℕ) → Underway hosts.now first script before session.old (D.view disk.old) (S.left source.old) (K.written sink.old) → Reached hosts.now first script before session.new (D.view disk.new) (K.written sink.new)) }
+    ensures stops { (stop : Stop) → IsErrOf result stop → (first : State) (script before : List ℕ) → Underway hosts.now first script before session.old (D.view disk.old) (S.left source.old) (K.written sink.old) → Leaves hosts.now (up_to first (D.view disk.new)) script before stop (K.written sink.new) }
+    ensures stopped { IsErrOf result Stop.ReadFault → (first : State) (script before : List ℕ) → Underway hosts.now first script before session.old (D.view disk.old) (S.left source.old) (K.written sink.old) → Underway hosts.now first script before session.new (D.view disk.new) (S.left source.new) (K.written sink.new) }
     ensures read { IsErrOf result Stop.ReadFault → Rose (S.faults source.old) (S.faults source.new) }
     ensures write { IsErrOf result Stop.WriteFault → Rose (K.faults sink.old) (K.faults sink.new) }
     ensures later { K.faults sink.old ≤ K.faults sink.new }
@@ -234,11 +236,11 @@ fn read_piece<S: Source, K: Sink, D: Disk>(
 ) -> Result<bool, Stop>
     requires room { 0 < length room.old }
     requires fits { Fits session.old.cluster (D.view disk.old) }
-    ensures told { OnOk result ((first : State) (script before : List ℕ) → Underway hosts.now first script before session.old (D.view disk.old).faults (S.left source.old) (K.written sink.old) → Underway hosts.now first script before session.new (D.view disk.new).faults (S.left source.new) (K.written sink.new)) }
-    ensures stops { (stop : Stop) → IsErrOf result stop → (first : State) (script before : List ℕ) → Underway hosts.now first script before session.old (D.view disk.old).faults (S.left source.old) (K.written sink.old) → Leaves hosts.now (up_to first (D.view disk.new).faults) script before stop (K.written sink.new) }
-    ensures end { IfOk result (λ more. IsFalse more → (first : State) (script before : List ℕ) → Underway hosts.now first script before session.old (D.view disk.old).faults (S.left source.old) (K.written sink.old) → Reached hosts.now first script before session.new (D.view disk.new).faults (K.written sink.new)) }
+    ensures told { OnOk result ((first : State) (script before : List ℕ) → Underway hosts.now first script before session.old (D.view disk.old) (S.left source.old) (K.written sink.old) → Underway hosts.now first script before session.new (D.view disk.new) (S.left source.new) (K.written sink.new)) }
+    ensures stops { (stop : Stop) → IsErrOf result stop → (first : State) (script before : List ℕ) → Underway hosts.now first script before session.old (D.view disk.old) (S.left source.old) (K.written sink.old) → Leaves hosts.now (up_to first (D.view disk.new)) script before stop (K.written sink.new) }
+    ensures end { IfOk result (λ more. IsFalse more → (first : State) (script before : List ℕ) → Underway hosts.now first script before session.old (D.view disk.old) (S.left source.old) (K.written sink.old) → Reached hosts.now first script before session.new (D.view disk.new) (K.written sink.new)) }
     ensures size { IfOk result (λ more. IsTrue more → taken_bytes session.old < taken_bytes session.new) }
-    ensures stopped { IsErrOf result Stop.ReadFault → (first : State) (script before : List ℕ) → Underway hosts.now first script before session.old (D.view disk.old).faults (S.left source.old) (K.written sink.old) → Underway hosts.now first script before session.new (D.view disk.new).faults (S.left source.new) (K.written sink.new) }
+    ensures stopped { IsErrOf result Stop.ReadFault → (first : State) (script before : List ℕ) → Underway hosts.now first script before session.old (D.view disk.old) (S.left source.old) (K.written sink.old) → Underway hosts.now first script before session.new (D.view disk.new) (S.left source.new) (K.written sink.new) }
     ensures read { IsErrOf result Stop.ReadFault → Rose (S.faults source.old) (S.faults source.new) }
     ensures write { IsErrOf result Stop.WriteFault → Rose (K.faults sink.old) (K.faults sink.new) }
     ensures read_later { S.faults source.old ≤ S.faults source.new }

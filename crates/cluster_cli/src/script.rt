@@ -3,11 +3,10 @@ ghost use Rattle.std.specs.Prelude.{◌≡◌, ◌≢◌, ℕ, ◌+◌, ◌<◌,
 ghost use Rattle.fault_count.specs.Rose.{Rose};
 ghost use Rattle.disk_trait.specs.Moments.{Onward};
 ghost use Rattle.cluster_cli.specs.Script.{line_feed, ended, HasNoLineFeed};
-ghost use Rattle.cluster_cli.specs.Progress.{Holds, IsPast, Reached, taken_bytes};
-ghost use Rattle.cluster_cli.specs.Report.{IsReported};
+ghost use Rattle.cluster_cli.specs.Progress.{Holds, IsPast, Reached, IsWhollyReported, taken_bytes};
 ghost use Rattle.cluster_cli.specs.Cuts.{Leaves};
-ghost use Rattle.cluster_cli.specs.Kept.{state_of, Fits};
-ghost use Rattle.cluster_cli.specs.State.{State, begun, up_to};
+ghost use Rattle.cluster_cli.specs.Kept.{Fits};
+ghost use Rattle.cluster_cli.specs.State.{State, up_to};
 ghost use Rattle.cluster_cli.specs.declared.session.Stop.{Stop};
 
 use crate::cluster::Cluster;
@@ -20,7 +19,7 @@ use std::alloc::Global;
 
 /// A session that has nothing of its script yet.
 pub fn begin(alloc: Global) -> Session
-    ensures told { (hosts : List (List ℕ)) (faults : ℕ) (before : List ℕ) (written : Option (List ℕ)) → written ≡ Some before → Reached hosts (begun faults) [] before result faults written }
+    ensures empty { (result.partial.items ≡ []) × (result.lines ≡ 0) × (result.passed ≡ 0) }
     ensures closed { result.cluster ≡ Cluster.Closed }
 {
     Session {
@@ -82,8 +81,8 @@ fn close<K: Sink, D: Disk>(
     session: &mut Session,
 ) -> Result<(), Stop>
     requires fits { Fits session.old.cluster (D.view disk.old) }
-    ensures told { OnOk result ((first : State) (given before : List ℕ) → Reached hosts.now first given before session.old (D.view disk.old).faults (K.written sink.old) → Reached hosts.now first (given ++ line_feed ∷ []) before session.new (D.view disk.new).faults (K.written sink.new)) }
-    ensures stops { (stop : Stop) → IsErrOf result stop → (first : State) (given before after : List ℕ) → Reached hosts.now first given before session.old (D.view disk.old).faults (K.written sink.old) → Leaves hosts.now (up_to first (D.view disk.new).faults) (given ++ line_feed ∷ after) before stop (K.written sink.new) }
+    ensures told { OnOk result ((first : State) (given before : List ℕ) → Reached hosts.now first given before session.old (D.view disk.old) (K.written sink.old) → Reached hosts.now first (given ++ line_feed ∷ []) before session.new (D.view disk.new) (K.written sink.new)) }
+    ensures stops { (stop : Stop) → IsErrOf result stop → (first : State) (given before after : List ℕ) → Reached hosts.now first given before session.old (D.view disk.old) (K.written sink.old) → Leaves hosts.now (up_to first (D.view disk.new)) (given ++ line_feed ∷ after) before stop (K.written sink.new) }
     ensures size { OnOk result (taken_bytes session.new ≡ taken_bytes session.old + 1) }
     ensures cause { IsErrOf result Stop.WriteFault → Rose (K.faults sink.old) (K.faults sink.new) }
     ensures no_read { result ≢ Err Stop.ReadFault }
@@ -123,8 +122,8 @@ fn end_line<K: Sink, D: Disk>(
     rest: &[u8],
 ) -> Result<(), Stop>
     requires fits { Fits session.old.cluster (D.view disk.old) }
-    ensures told { OnOk result (HasNoLineFeed rest.now → (first : State) (given before : List ℕ) → Reached hosts.now first given before session.old (D.view disk.old).faults (K.written sink.old) → Reached hosts.now first (given ++ ended rest.now) before session.new (D.view disk.new).faults (K.written sink.new)) }
-    ensures stops { (stop : Stop) → IsErrOf result stop → HasNoLineFeed rest.now → (first : State) (given before after : List ℕ) → Reached hosts.now first given before session.old (D.view disk.old).faults (K.written sink.old) → Leaves hosts.now (up_to first (D.view disk.new).faults) (given ++ (ended rest.now ++ after)) before stop (K.written sink.new) }
+    ensures told { OnOk result (HasNoLineFeed rest.now → (first : State) (given before : List ℕ) → Reached hosts.now first given before session.old (D.view disk.old) (K.written sink.old) → Reached hosts.now first (given ++ ended rest.now) before session.new (D.view disk.new) (K.written sink.new)) }
+    ensures stops { (stop : Stop) → IsErrOf result stop → HasNoLineFeed rest.now → (first : State) (given before after : List ℕ) → Reached hosts.now first given before session.old (D.view disk.old) (K.written sink.old) → Leaves hosts.now (up_to first (D.view disk.new)) (given ++ (ended rest.now ++ after)) before stop (K.written sink.new) }
     ensures size { OnOk result (taken_bytes session.new ≡ taken_bytes session.old + (length rest.now + 1)) }
     ensures cause { IsErrOf result Stop.WriteFault → Rose (K.faults sink.old) (K.faults sink.new) }
     ensures no_read { result ≢ Err Stop.ReadFault }
@@ -147,8 +146,8 @@ pub fn take_piece<K: Sink, D: Disk>(
     piece: &[u8],
 ) -> Result<(), Stop>
     requires fits { Fits session.old.cluster (D.view disk.old) }
-    ensures told { OnOk result ((first : State) (given before : List ℕ) → Reached hosts.now first given before session.old (D.view disk.old).faults (K.written sink.old) → Reached hosts.now first (given ++ piece.now) before session.new (D.view disk.new).faults (K.written sink.new)) }
-    ensures stops { (stop : Stop) → IsErrOf result stop → (first : State) (given before after : List ℕ) → Reached hosts.now first given before session.old (D.view disk.old).faults (K.written sink.old) → Leaves hosts.now (up_to first (D.view disk.new).faults) (given ++ (piece.now ++ after)) before stop (K.written sink.new) }
+    ensures told { OnOk result ((first : State) (given before : List ℕ) → Reached hosts.now first given before session.old (D.view disk.old) (K.written sink.old) → Reached hosts.now first (given ++ piece.now) before session.new (D.view disk.new) (K.written sink.new)) }
+    ensures stops { (stop : Stop) → IsErrOf result stop → (first : State) (given before after : List ℕ) → Reached hosts.now first given before session.old (D.view disk.old) (K.written sink.old) → Leaves hosts.now (up_to first (D.view disk.new)) (given ++ (piece.now ++ after)) before stop (K.written sink.new) }
     ensures size { OnOk result (taken_bytes session.new ≡ taken_bytes session.old + length piece.now) }
     ensures cause { IsErrOf result Stop.WriteFault → Rose (K.faults sink.old) (K.faults sink.new) }
     ensures no_read { result ≢ Err Stop.ReadFault }
@@ -174,8 +173,8 @@ pub fn finish<K: Sink, D: Disk>(
     session: &mut Session,
 ) -> Result<(), Stop>
     requires fits { Fits session.old.cluster (D.view disk.old) }
-    ensures told { OnOk result ((first : State) (script before : List ℕ) → Reached hosts.now first script before session.old (D.view disk.old).faults (K.written sink.old) → IsReported hosts.now first script before (K.written sink.new) (state_of session.new.cluster (D.view disk.new).faults)) }
-    ensures stops { (stop : Stop) → IsErrOf result stop → (first : State) (script before : List ℕ) → Reached hosts.now first script before session.old (D.view disk.old).faults (K.written sink.old) → Leaves hosts.now (up_to first (D.view disk.new).faults) script before stop (K.written sink.new) }
+    ensures told { OnOk result ((first : State) (script before : List ℕ) → Reached hosts.now first script before session.old (D.view disk.old) (K.written sink.old) → IsWhollyReported hosts.now first script before (K.written sink.new) session.new.cluster (D.view disk.new)) }
+    ensures stops { (stop : Stop) → IsErrOf result stop → (first : State) (script before : List ℕ) → Reached hosts.now first script before session.old (D.view disk.old) (K.written sink.old) → Leaves hosts.now (up_to first (D.view disk.new)) script before stop (K.written sink.new) }
     ensures cause { IsErrOf result Stop.WriteFault → Rose (K.faults sink.old) (K.faults sink.new) }
     ensures no_read { result ≢ Err Stop.ReadFault }
     ensures later { K.faults sink.old ≤ K.faults sink.new }

@@ -1,7 +1,7 @@
 //! `persist`: the real streams and the site of a run, the top call, and its status as the process's exit code.
 #![tactic(auto)]
 
-use cluster_cli::{DiskPlan, StandardSink, StandardSource, memory_site, run_steps};
+use cluster_cli::{StandardSink, StandardSource, memory_site, run_steps};
 use std::env;
 use std::io::ErrorKind;
 use std::process::ExitCode;
@@ -25,14 +25,7 @@ fn main(rt: HostRuntime) -> ExitCode {
         Err(_) => {}
     }
     let words = words.as_slice();
-    // No call of the disk fails.
-    let faults = DiskPlan {
-        fail: Vec::new(alloc),
-        fail_reads: Vec::new(alloc),
-        fuse: None,
-        pick: 0,
-    };
-    let Ok(site) = memory_site(alloc, words, faults) else {
+    let Ok(site) = memory_site(alloc, words) else {
         return ExitCode::from(NO_MEMORY);
     };
     let mut source = StandardSource::new(&rt);

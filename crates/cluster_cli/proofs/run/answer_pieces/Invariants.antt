@@ -12,7 +12,7 @@ invariant-pieces g l =
     let written = g.K.Sink.written in
     let view = g.D.Disk.view in
     record {
-      told : (first : State) (script before : List ℕ) → Underway l.hosts first script before l.fn.session (view l.fn.disk).faults (left l.fn.source) (written l.fn.sink) → Underway l.hosts first script before l.session (view l.disk).faults (left l.source) (written l.sink);
+      told : (first : State) (script before : List ℕ) → Underway l.hosts first script before l.fn.session (view l.fn.disk) (left l.fn.source) (written l.fn.sink) → Underway l.hosts first script before l.session (view l.disk) (left l.source) (written l.sink);
       read_later : g.S.Source.faults l.fn.source ≤ g.S.Source.faults l.source;
       write_later : g.K.Sink.faults l.fn.sink ≤ g.K.Sink.faults l.sink;
       fits : Fits l.session.cluster (view l.disk);

@@ -10,7 +10,7 @@ use Rattle.cluster_cli.proofs.script.end_line.Goals as goal
 
 pub returns-clause-told : goal.returns-clause-told
 returns-clause-told g c = λ no_feed first given before so_far.
-    subst (λ (b : List ℕ). Reached c.args.hosts.now first b before c.close.new.session (g.D.Disk.view c.close.new.disk).faults (g.K.Sink.written c.close.new.sink))
+    subst (λ (b : List ℕ). Reached c.args.hosts.now first b before c.close.new.session (g.D.Disk.view c.close.new.disk) (g.K.Sink.written c.close.new.sink))
     (append_assoc given c.args.rest.now (line_feed ∷ []))
     (c.in_ok-close.ensures.told first (given ++ c.args.rest.now) before (holds _ _ _ _ _ _ _ _ _ c.in_ok-hold.ensures.held no_feed so_far))
 

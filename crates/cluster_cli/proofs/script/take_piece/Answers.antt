@@ -27,7 +27,7 @@ lines-preserved g c =
       told = (
         so_far.told.0 ++ ended c.in-Some.line.now,
         piece_goes_on _ _ _ _ _ so_far.told.1 split,
-        λ first given before reached. subst (λ (b : List ℕ). Reached c.args.hosts.now first b before c.end_line.new.session (g.D.Disk.view c.end_line.new.disk).faults (g.K.Sink.written c.end_line.new.sink))
+        λ first given before reached. subst (λ (b : List ℕ). Reached c.args.hosts.now first b before c.end_line.new.session (g.D.Disk.view c.end_line.new.disk) (g.K.Sink.written c.end_line.new.sink))
             (append_assoc given so_far.told.0 (ended c.in-Some.line.now))
             (c.in_ok-end_line.ensures.told c.in-Some.ensures.found.0 first (given ++ so_far.told.0) before (so_far.told.2 first given before reached)),
       );

@@ -12,7 +12,7 @@ invariant-lines g l =
     let faults = g.K.Sink.faults in
     let view = g.D.Disk.view in
     record {
-      told : (front : List ℕ) × (l.fn.piece ≡ front ++ l.rest) × ((first : State) (given before : List ℕ) → Reached l.hosts first given before l.fn.session (view l.fn.disk).faults (written l.fn.sink) → Reached l.hosts first (given ++ front) before l.session (view l.disk).faults (written l.sink));
+      told : (front : List ℕ) × (l.fn.piece ≡ front ++ l.rest) × ((first : State) (given before : List ℕ) → Reached l.hosts first given before l.fn.session (view l.fn.disk) (written l.fn.sink) → Reached l.hosts first (given ++ front) before l.session (view l.disk) (written l.sink));
       size : taken_bytes l.session + length l.rest ≡ taken_bytes l.fn.session + length l.fn.piece;
       later : faults l.fn.sink ≤ faults l.sink;
       fits : Fits l.session.cluster (view l.disk);

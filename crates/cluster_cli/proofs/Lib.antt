@@ -4,6 +4,7 @@ mod CutLemmas
 mod EventLemmas
 mod FaultLemmas
 mod LineLemmas
+mod OnwardLemmas
 mod ProgressLemmas
 mod ReadLemmas
 mod SiteLemmas

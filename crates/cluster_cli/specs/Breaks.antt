@@ -10,7 +10,7 @@ use Rattle.script_lines.specs.declared.answer.Outcome.{Outcome}
 use Rattle.disk_trait.specs.View.{View}
 use Rattle.cluster_cli.specs.Kept.{IsAt, IsLeft}
 use Rattle.cluster_cli.specs.declared.cluster.Cluster.{Cluster}
-use Rattle.cluster_cli.specs.State.{Saved, unknown, Stage, closed, opened, failing, State, EventRun, CommandStep}
+use Rattle.cluster_cli.specs.State.{Saved, unknown, Stage, closed, opened, failing, State, EventRun, CommandStep, Run}
 
 -- the event's change is in flight
 abbrev pub IsInFlight : Stage → Event → Stage → Type 0
@@ -60,3 +60,21 @@ pub record IsBrokenOff (hosts : List (List ℕ)) (old : State) (command : Comman
   pub new : State
   pub at_end : IsLeft v new
   pub breaks : Breaks hosts old command new
+
+-- from this state the code and the disk have gone on by some commands that were carried out
+pub record RunsOn (hosts : List (List ℕ)) (first : State) (cluster : Cluster) (v : View) : Type 0 where
+  pub commands : List Command
+  pub answers : List Answer
+  pub last : State
+  pub run : Run hosts first commands answers last
+  pub at : IsAt cluster v last
+
+-- from this state some commands were carried out, and perhaps one was broken off behind them; so the disk was left
+pub record RunsOut (hosts : List (List ℕ)) (first : State) (v : View) : Type 0 where
+  pub commands : List Command
+  pub answers : List Answer
+  pub last : State
+  pub run : Run hosts first commands answers last
+  pub new : State
+  pub gone : (new ≡ last) ⊎ (command : Command) × Breaks hosts last command new
+  pub at_end : IsLeft v new

@@ -7,6 +7,7 @@ ghost use Rattle.disk_trait.specs.Moments.{Onward};
 ghost use Rattle.cluster_cli.specs.State.{State};
 ghost use Rattle.cluster_cli.specs.Kept.{IsAt, Fits};
 ghost use Rattle.cluster_cli.specs.Progress.{IsReplied, IsAnswered};
+ghost use Rattle.cluster_cli.specs.Breaks.{RunsOn, RunsOut};
 ghost use Rattle.cluster_cli.specs.Cuts.{IsCutLine, LineEnds};
 
 use crate::cluster::Cluster;
@@ -32,6 +33,8 @@ pub fn answer_line<K: Sink, D: Disk>(
     requires fits { Fits cluster.old (D.view disk.old) }
     ensures told { OnOk result (ForSome (K.written sink.old) (λ before. (state : State) → IsAt cluster.old (D.view disk.old) state → IsAnswered hosts.now state line.now before (K.written sink.new) cluster.new (D.view disk.new))) }
     ensures cut { OnErr result (ForSome (K.written sink.old) (λ before. (state : State) → IsAt cluster.old (D.view disk.old) state → IsCutLine hosts.now state line.now before (K.written sink.new) (D.view disk.new))) }
+    ensures runs { OnOk result ((state : State) → IsAt cluster.old (D.view disk.old) state → RunsOn hosts.now state cluster.new (D.view disk.new)) }
+    ensures ends { OnErr result ((state : State) → IsAt cluster.old (D.view disk.old) state → RunsOut hosts.now state (D.view disk.new)) }
     ensures form { (n : ℕ) → IsErrOf result (Stop.Faulty n) → (n ≡ number) × (line.now ≢ []) × HasNoForm line.now }
     ensures kept { (n : ℕ) → IsErrOf result (Stop.Faulty n) → K.written sink.new ≡ K.written sink.old }
     ensures as_before { (n : ℕ) → IsErrOf result (Stop.Faulty n) → (state : State) → IsAt cluster.old (D.view disk.old) state → IsAt cluster.new (D.view disk.new) state }

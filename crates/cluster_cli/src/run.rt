@@ -1,5 +1,5 @@
 //! The top call.
-ghost use Rattle.std.specs.Prelude.{◌≡◌, ◌≢◌, ◌⊎◌, ℕ, ◌<◌, ◌≤◌, List, IfOk, OnOk, IsErrOf, IsTrue, IsFalse, length, vec_len, Some};
+ghost use Rattle.std.specs.Prelude.{◌≡◌, ◌≢◌, ◌⊎◌, ℕ, ◌<◌, ◌≤◌, List, IfOk, OnOk, OnErr, IsErrOf, IsTrue, IsFalse, length, vec_len, Some};
 ghost use Rattle.fault_count.specs.Rose.{Rose};
 ghost use Rattle.disk_trait.specs.Moments.{Onward};
 ghost use Rattle.seal_gate.specs.Seal.{IsSettled};
@@ -9,6 +9,7 @@ ghost use Rattle.cluster_cli.specs.Codes.{IsOfNoPlan};
 ghost use Rattle.cluster_cli.specs.Cuts.{Leaves, IsCutShort};
 ghost use Rattle.cluster_cli.specs.Ends.{EndsWith, BeginsWith, HasLanes, AreDisks, From, IsReportedAndStored, IsSurvived, EndsReport};
 ghost use Rattle.cluster_cli.specs.Faults.{IsReportedToFault};
+ghost use Rattle.cluster_cli.specs.Breaks.{RunsOn, RunsOut};
 ghost use Rattle.cluster_cli.specs.Kept.{IsAt, Fits};
 ghost use Rattle.cluster_cli.specs.declared.cluster.Cluster.TheVariants.{Closed};
 ghost use Rattle.cluster_cli.specs.Progress.{Reached, Underway, taken_bytes};
@@ -54,6 +55,9 @@ pub fn run_steps<R, S: Source, K: Sink, D: Disk, V>(
     // However a run ends, and wherever a device call or a stop cut it short, what was answered is kept.
     ensures survives { IsPlanned (words_of words.now) → (script before : List ℕ) (old new : D) → S.left source.old ≡ Some script → K.written sink.old ≡ Some before → AreDisks site.lanes.items result.site.lanes.items old new → From (D.view old) (λ first. IsSurvived site.hosts.items (up_to first (D.view new)) script before (K.written sink.new)) }
 
+    // So it is with streams that tell nothing: the disk is left as some commands leave it, and perhaps one that was broken off.
+    ensures kept { IsPlanned (words_of words.now) → (old new : D) → AreDisks site.lanes.items result.site.lanes.items old new → From (D.view old) (λ first. RunsOut site.hosts.items first (D.view new)) }
+
     // What else ends a run.
     ensures words { result.status ≡ 1 → HasNoPlan (words_of words.now) }
     ensures told { result.status ≡ 1 → EndsWith faults.Words (K.written sink.old) (K.written sink.new) }
@@ -67,6 +71,9 @@ pub fn run_steps<R, S: Source, K: Sink, D: Disk, V>(
     // What is written where a run ends with 4 or 5 is a front of such a text.
     ensures cut { IsPlanned (words_of words.now) → (result.status ≡ 4) ⊎ (result.status ≡ 5) → (script before : List ℕ) (old new : D) → S.left source.old ≡ Some script → K.written sink.old ≡ Some before → AreDisks site.lanes.items result.site.lanes.items old new → From (D.view old) (λ first. IsCutShort site.hosts.items (up_to first (D.view new)) script before (S.left source.new) (K.written sink.new)) }
     ensures cut_words { HasNoPlan (words_of words.now) → BeginsWith faults.Words (K.written sink.old) (K.written sink.new) }
+
+    // Without a plan no disk is touched.
+    ensures untouched { HasNoPlan (words_of words.now) → result.site ≡ site }
 
     // A good script is answered, unless a stream fails or memory is wanted.
     ensures complete { (script before : List ℕ) (commands : List Command) (hosts : List (List ℕ)) (count : ℕ) → S.left source.old ≡ Some script → K.written sink.old ≡ Some before → IsPlan (words_of words.now) hosts count → IsScriptOf script commands → (Rose (S.faults source.old) (S.faults source.new) → ⊥) → (Rose (K.faults sink.old) (K.faults sink.new) → ⊥) → (result.status ≡ 0) ⊎ (result.status ≡ 5) }
@@ -96,10 +103,12 @@ fn run_words<S: Source, K: Sink, D: Disk, V>(
     ensures words { result ≡ Status.WordFault → HasNoPlan (words_of words.now) }
     ensures told { result ≡ Status.WordFault → EndsWith faults.Words (K.written sink.old) (K.written sink.new) }
     ensures ends { (HasNoPlan (words_of words.now) → ⊥) → (script before : List ℕ) (old new : D) → S.left source.old ≡ Some script → K.written sink.old ≡ Some before → AreDisks site.old.lanes.items site.new.lanes.items old new → From (D.view old) (λ first. EndsReport site.old.hosts.items (up_to first (D.view new)) script before result (S.left source.new) (K.written sink.new)) }
+    ensures kept { (HasNoPlan (words_of words.now) → ⊥) → (old new : D) → AreDisks site.old.lanes.items site.new.lanes.items old new → From (D.view old) (λ first. RunsOut site.old.hosts.items first (D.view new)) }
     ensures no_plan { HasNoPlan (words_of words.now) → IsOfNoPlan result }
     ensures cut_words { HasNoPlan (words_of words.now) → BeginsWith faults.Words (K.written sink.old) (K.written sink.new) }
     ensures read { result ≡ Status.ReadFault → Rose (S.faults source.old) (S.faults source.new) }
     ensures write { result ≡ Status.WriteFault → Rose (K.faults sink.old) (K.faults sink.new) }
+    ensures untouched { HasNoPlan (words_of words.now) → site.new ≡ site.old }
     ensures unchanged { site.new ≡ record site.old { lanes = site.new.lanes } }
     ensures lanes { HasLanes site.new.lanes.items site.old.partitions (vec_len site.old.hosts) }
     ensures onward { (old new : D) → AreDisks site.old.lanes.items site.new.lanes.items old new → Onward (D.view old) (D.view new) }
@@ -128,6 +137,7 @@ fn run_plan<S: Source, K: Sink, D: Disk>(
 ) -> Status
     ensures words { result ≢ Status.WordFault }
     ensures ends { (script before : List ℕ) → S.left source.old ≡ Some script → K.written sink.old ≡ Some before → From (D.view disk.old) (λ first. EndsReport hosts.now (up_to first (D.view disk.new)) script before result (S.left source.new) (K.written sink.new)) }
+    ensures kept { From (D.view disk.old) (λ first. RunsOut hosts.now first (D.view disk.new)) }
     ensures read { result ≡ Status.ReadFault → Rose (S.faults source.old) (S.faults source.new) }
     ensures write { result ≡ Status.WriteFault → Rose (K.faults sink.old) (K.faults sink.new) }
     ensures onward { Onward (D.view disk.old) (D.view disk.new) }
@@ -179,6 +189,7 @@ fn run_script<S: Source, K: Sink, D: Disk>(
     ensures told { OnOk result ((first : State) (script before : List ℕ) → IsAt Closed (D.view disk.old) first → S.left source.old ≡ Some script → K.written sink.old ≡ Some before → IsReportedAndStored hosts.now (up_to first (D.view disk.new)) script before (K.written sink.new)) }
     ensures stops { (stop : Stop) → IsErrOf result stop → (first : State) (script before : List ℕ) → IsAt Closed (D.view disk.old) first → S.left source.old ≡ Some script → K.written sink.old ≡ Some before → Leaves hosts.now (up_to first (D.view disk.new)) script before stop (K.written sink.new) }
     ensures stopped { IsErrOf result Stop.ReadFault → (first : State) (script before : List ℕ) → IsAt Closed (D.view disk.old) first → S.left source.old ≡ Some script → K.written sink.old ≡ Some before → IsReportedSoFar hosts.now (up_to first (D.view disk.new)) script before (S.left source.new) (K.written sink.new) }
+    ensures ends { (first : State) → IsAt Closed (D.view disk.old) first → RunsOut hosts.now first (D.view disk.new) }
     ensures read { IsErrOf result Stop.ReadFault → Rose (S.faults source.old) (S.faults source.new) }
     ensures write { IsErrOf result Stop.WriteFault → Rose (K.faults sink.old) (K.faults sink.new) }
     ensures later { K.faults sink.old ≤ K.faults sink.new }
@@ -213,6 +224,8 @@ fn answer_pieces<S: Source, K: Sink, D: Disk>(
     requires fits { Fits session.old.cluster (D.view disk.old) }
     ensures told { OnOk result ((first : State) (script before : List ℕ) → Underway hosts.now first script before session.old (D.view disk.old) (S.left source.old) (K.written sink.old) → Reached hosts.now first script before session.new (D.view disk.new) (K.written sink.new)) }
     ensures stops { (stop : Stop) → IsErrOf result stop → (first : State) (script before : List ℕ) → Underway hosts.now first script before session.old (D.view disk.old) (S.left source.old) (K.written sink.old) → Leaves hosts.now (up_to first (D.view disk.new)) script before stop (K.written sink.new) }
+    ensures runs { OnOk result ((state : State) → IsAt session.old.cluster (D.view disk.old) state → RunsOn hosts.now state session.new.cluster (D.view disk.new)) }
+    ensures ends { OnErr result ((state : State) → IsAt session.old.cluster (D.view disk.old) state → RunsOut hosts.now state (D.view disk.new)) }
     ensures stopped { IsErrOf result Stop.ReadFault → (first : State) (script before : List ℕ) → Underway hosts.now first script before session.old (D.view disk.old) (S.left source.old) (K.written sink.old) → Underway hosts.now first script before session.new (D.view disk.new) (S.left source.new) (K.written sink.new) }
     ensures read { IsErrOf result Stop.ReadFault → Rose (S.faults source.old) (S.faults source.new) }
     ensures write { IsErrOf result Stop.WriteFault → Rose (K.faults sink.old) (K.faults sink.new) }
@@ -240,6 +253,8 @@ fn read_piece<S: Source, K: Sink, D: Disk>(
     ensures stops { (stop : Stop) → IsErrOf result stop → (first : State) (script before : List ℕ) → Underway hosts.now first script before session.old (D.view disk.old) (S.left source.old) (K.written sink.old) → Leaves hosts.now (up_to first (D.view disk.new)) script before stop (K.written sink.new) }
     ensures end { IfOk result (λ more. IsFalse more → (first : State) (script before : List ℕ) → Underway hosts.now first script before session.old (D.view disk.old) (S.left source.old) (K.written sink.old) → Reached hosts.now first script before session.new (D.view disk.new) (K.written sink.new)) }
     ensures size { IfOk result (λ more. IsTrue more → taken_bytes session.old < taken_bytes session.new) }
+    ensures runs { OnOk result ((state : State) → IsAt session.old.cluster (D.view disk.old) state → RunsOn hosts.now state session.new.cluster (D.view disk.new)) }
+    ensures ends { OnErr result ((state : State) → IsAt session.old.cluster (D.view disk.old) state → RunsOut hosts.now state (D.view disk.new)) }
     ensures stopped { IsErrOf result Stop.ReadFault → (first : State) (script before : List ℕ) → Underway hosts.now first script before session.old (D.view disk.old) (S.left source.old) (K.written sink.old) → Underway hosts.now first script before session.new (D.view disk.new) (S.left source.new) (K.written sink.new) }
     ensures read { IsErrOf result Stop.ReadFault → Rose (S.faults source.old) (S.faults source.new) }
     ensures write { IsErrOf result Stop.WriteFault → Rose (K.faults sink.old) (K.faults sink.new) }

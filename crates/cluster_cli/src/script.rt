@@ -1,11 +1,12 @@
 //! A script in pieces, and its lines.
-ghost use Rattle.std.specs.Prelude.{◌≡◌, ◌≢◌, ℕ, ◌+◌, ◌<◌, ◌≤◌, List, [], ◌∷◌, ◌++◌, length, take, drop, OnOk, IfSome, IfNone, IsErrOf, Option, Some};
+ghost use Rattle.std.specs.Prelude.{◌≡◌, ◌≢◌, ℕ, ◌+◌, ◌<◌, ◌≤◌, List, [], ◌∷◌, ◌++◌, length, take, drop, OnOk, OnErr, IfSome, IfNone, IsErrOf, Option, Some};
 ghost use Rattle.fault_count.specs.Rose.{Rose};
 ghost use Rattle.disk_trait.specs.Moments.{Onward};
 ghost use Rattle.cluster_cli.specs.Script.{line_feed, ended, HasNoLineFeed};
 ghost use Rattle.cluster_cli.specs.Progress.{Holds, IsPast, Reached, IsWhollyReported, taken_bytes};
 ghost use Rattle.cluster_cli.specs.Cuts.{Leaves};
-ghost use Rattle.cluster_cli.specs.Kept.{Fits};
+ghost use Rattle.cluster_cli.specs.Breaks.{RunsOn, RunsOut};
+ghost use Rattle.cluster_cli.specs.Kept.{IsAt, Fits};
 ghost use Rattle.cluster_cli.specs.State.{State, up_to};
 ghost use Rattle.cluster_cli.specs.declared.session.Stop.{Stop};
 
@@ -84,6 +85,8 @@ fn close<K: Sink, D: Disk>(
     ensures told { OnOk result ((first : State) (given before : List ℕ) → Reached hosts.now first given before session.old (D.view disk.old) (K.written sink.old) → Reached hosts.now first (given ++ line_feed ∷ []) before session.new (D.view disk.new) (K.written sink.new)) }
     ensures stops { (stop : Stop) → IsErrOf result stop → (first : State) (given before after : List ℕ) → Reached hosts.now first given before session.old (D.view disk.old) (K.written sink.old) → Leaves hosts.now (up_to first (D.view disk.new)) (given ++ line_feed ∷ after) before stop (K.written sink.new) }
     ensures size { OnOk result (taken_bytes session.new ≡ taken_bytes session.old + 1) }
+    ensures runs { OnOk result ((state : State) → IsAt session.old.cluster (D.view disk.old) state → RunsOn hosts.now state session.new.cluster (D.view disk.new)) }
+    ensures ends { OnErr result ((state : State) → IsAt session.old.cluster (D.view disk.old) state → RunsOut hosts.now state (D.view disk.new)) }
     ensures cause { IsErrOf result Stop.WriteFault → Rose (K.faults sink.old) (K.faults sink.new) }
     ensures no_read { result ≢ Err Stop.ReadFault }
     ensures later { K.faults sink.old ≤ K.faults sink.new }
@@ -125,6 +128,8 @@ fn end_line<K: Sink, D: Disk>(
     ensures told { OnOk result (HasNoLineFeed rest.now → (first : State) (given before : List ℕ) → Reached hosts.now first given before session.old (D.view disk.old) (K.written sink.old) → Reached hosts.now first (given ++ ended rest.now) before session.new (D.view disk.new) (K.written sink.new)) }
     ensures stops { (stop : Stop) → IsErrOf result stop → HasNoLineFeed rest.now → (first : State) (given before after : List ℕ) → Reached hosts.now first given before session.old (D.view disk.old) (K.written sink.old) → Leaves hosts.now (up_to first (D.view disk.new)) (given ++ (ended rest.now ++ after)) before stop (K.written sink.new) }
     ensures size { OnOk result (taken_bytes session.new ≡ taken_bytes session.old + (length rest.now + 1)) }
+    ensures runs { OnOk result ((state : State) → IsAt session.old.cluster (D.view disk.old) state → RunsOn hosts.now state session.new.cluster (D.view disk.new)) }
+    ensures ends { OnErr result ((state : State) → IsAt session.old.cluster (D.view disk.old) state → RunsOut hosts.now state (D.view disk.new)) }
     ensures cause { IsErrOf result Stop.WriteFault → Rose (K.faults sink.old) (K.faults sink.new) }
     ensures no_read { result ≢ Err Stop.ReadFault }
     ensures later { K.faults sink.old ≤ K.faults sink.new }
@@ -149,6 +154,8 @@ pub fn take_piece<K: Sink, D: Disk>(
     ensures told { OnOk result ((first : State) (given before : List ℕ) → Reached hosts.now first given before session.old (D.view disk.old) (K.written sink.old) → Reached hosts.now first (given ++ piece.now) before session.new (D.view disk.new) (K.written sink.new)) }
     ensures stops { (stop : Stop) → IsErrOf result stop → (first : State) (given before after : List ℕ) → Reached hosts.now first given before session.old (D.view disk.old) (K.written sink.old) → Leaves hosts.now (up_to first (D.view disk.new)) (given ++ (piece.now ++ after)) before stop (K.written sink.new) }
     ensures size { OnOk result (taken_bytes session.new ≡ taken_bytes session.old + length piece.now) }
+    ensures runs { OnOk result ((state : State) → IsAt session.old.cluster (D.view disk.old) state → RunsOn hosts.now state session.new.cluster (D.view disk.new)) }
+    ensures ends { OnErr result ((state : State) → IsAt session.old.cluster (D.view disk.old) state → RunsOut hosts.now state (D.view disk.new)) }
     ensures cause { IsErrOf result Stop.WriteFault → Rose (K.faults sink.old) (K.faults sink.new) }
     ensures no_read { result ≢ Err Stop.ReadFault }
     ensures later { K.faults sink.old ≤ K.faults sink.new }
@@ -175,6 +182,8 @@ pub fn finish<K: Sink, D: Disk>(
     requires fits { Fits session.old.cluster (D.view disk.old) }
     ensures told { OnOk result ((first : State) (script before : List ℕ) → Reached hosts.now first script before session.old (D.view disk.old) (K.written sink.old) → IsWhollyReported hosts.now first script before (K.written sink.new) session.new.cluster (D.view disk.new)) }
     ensures stops { (stop : Stop) → IsErrOf result stop → (first : State) (script before : List ℕ) → Reached hosts.now first script before session.old (D.view disk.old) (K.written sink.old) → Leaves hosts.now (up_to first (D.view disk.new)) script before stop (K.written sink.new) }
+    ensures runs { OnOk result ((state : State) → IsAt session.old.cluster (D.view disk.old) state → RunsOn hosts.now state session.new.cluster (D.view disk.new)) }
+    ensures ends { OnErr result ((state : State) → IsAt session.old.cluster (D.view disk.old) state → RunsOut hosts.now state (D.view disk.new)) }
     ensures cause { IsErrOf result Stop.WriteFault → Rose (K.faults sink.old) (K.faults sink.new) }
     ensures no_read { result ≢ Err Stop.ReadFault }
     ensures later { K.faults sink.old ≤ K.faults sink.new }

@@ -6,6 +6,7 @@ use Rattle.cluster_cli.proofs.CutLemmas.{on_err, came_so_far}
 use Rattle.cluster_cli.proofs.FaultLemmas.{handed_on}
 use Rattle.cluster_cli.proofs.LineLemmas.{passed_over}
 use Rattle.cluster_cli.specs.declared.session.Stop.TheVariants.{Faulty}
+use Rattle.cluster_cli.proofs.OnwardLemmas.{runs_none, runs_replied, out_here, out_line}
 use Rattle.cluster_cli.proofs.line.answer_line.Goals as goal
 
 pub returns-then-is_empty-clause-told : goal.returns-then-is_empty-clause-told
@@ -22,3 +23,15 @@ returns-in_err-write_all-clause-cut g c =
     (λ before told state at. let done = c.in_ok-text.ensures.step state at in
     has_front _ done.new (line_step _ _ _ _ _ (sym c.is_empty.ensures ∙ c.if-is_empty.false) done.step) (is_left _ _ done.new done.at)
     (subst (λ (text : List ℕ). IsBegun text before (g.K.Sink.written c.write_all.new.sink)) c.deref.ensures.value (came_so_far _ before _ (c.in_err-write_all.ensures.told.front before told))))
+
+pub returns-then-is_empty-clause-runs : goal.returns-then-is_empty-clause-runs
+returns-then-is_empty-clause-runs g c = λ state at. runs_none _ state _ _ at
+
+pub returns-in_err-text-clause-ends : goal.returns-in_err-text-clause-ends
+returns-in_err-text-clause-ends g c = on_err c.from_residual.result _ (λ state at. out_line _ state _ _ (c.in_err-text.ensures.broken state at))
+
+pub returns-in_err-write_all-clause-ends : goal.returns-in_err-write_all-clause-ends
+returns-in_err-write_all-clause-ends g c = on_err c.from_residual-in_err-write_all.result _ (λ state at. out_here _ state _ _ (runs_replied _ state _ _ _ _ (c.in_ok-text.ensures.step state at)))
+
+pub returns-clause-runs : goal.returns-clause-runs
+returns-clause-runs g c = λ state at. runs_replied _ state _ _ _ _ (c.in_ok-text.ensures.step state at)

@@ -3,6 +3,8 @@ use Rattle.std.proofs.lemmas.Result.{err_from_is_err_and}
 use Rattle.cluster_cli.proofs.ProgressLemmas.{takes, nothing_read, read_none}
 use Rattle.cluster_cli.proofs.FaultLemmas.{handed_on}
 use Rattle.cluster_cli.proofs.CutLemmas.{reads_stop, read_stop, same_fault}
+use Rattle.cluster_cli.proofs.OnwardLemmas.{runs_none, out_here}
+use Rattle.cluster_cli.proofs.CutLemmas.{on_err}
 use Rattle.cluster_cli.proofs.run.read_piece.Goals as goal
 
 pub returns-clause-told : goal.returns-clause-told
@@ -25,3 +27,9 @@ returns-in_err-count-clause-stopped g c = λ is first script before so_far. noth
 
 pub returns-then-count-eq0-clause-told : goal.returns-then-count-eq0-clause-told
 returns-then-count-eq0-clause-told g c = λ first script before so_far. read_none _ first script before _ _ _ _ _ c.in_ok-count.count (omega (arith, c.if-count-eq0.true)) so_far c.in_ok-count.ensures.told.rest
+
+pub returns-in_err-count-clause-ends : goal.returns-in_err-count-clause-ends
+returns-in_err-count-clause-ends g c = on_err c.from_residual.result _ (λ state at. out_here _ state _ _ (runs_none _ state _ _ at))
+
+pub returns-then-count-eq0-clause-runs : goal.returns-then-count-eq0-clause-runs
+returns-then-count-eq0-clause-runs g c = λ state at. runs_none _ state _ _ at

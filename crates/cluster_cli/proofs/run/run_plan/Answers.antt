@@ -32,3 +32,18 @@ pub returns-in-Err-NoMemory-clause-ends : goal.returns-in-Err-NoMemory-clause-en
 returns-in-Err-NoMemory-clause-ends g c = λ script before left was told saved tells is.
     let at = begins_at told saved _ _ tells is c.restart.ensures.images c.restart.ensures.tells in
     (_, c.restart.ensures.faults, cut_front _ _ script before _ _ (c.in-Err-NoMemory.ensures.stops NoMemory (ap Err c.in-Err-NoMemory.field-0-is) (begun told saved _) script before at left was))
+
+pub returns-in-Ok-clause-kept : goal.returns-in-Ok-clause-kept
+returns-in-Ok-clause-kept g c = λ told saved tells is. (_, c.restart.ensures.faults, c.run_script.ensures.ends (begun told saved _) (begins_at told saved _ _ tells is c.restart.ensures.images c.restart.ensures.tells))
+
+pub returns-in-Err-Faulty-clause-kept : goal.returns-in-Err-Faulty-clause-kept
+returns-in-Err-Faulty-clause-kept g c = λ told saved tells is. (_, c.restart.ensures.faults, c.run_script.ensures.ends (begun told saved _) (begins_at told saved _ _ tells is c.restart.ensures.images c.restart.ensures.tells))
+
+pub returns-in-Err-ReadFault-clause-kept : goal.returns-in-Err-ReadFault-clause-kept
+returns-in-Err-ReadFault-clause-kept g c = λ told saved tells is. (_, c.restart.ensures.faults, c.run_script.ensures.ends (begun told saved _) (begins_at told saved _ _ tells is c.restart.ensures.images c.restart.ensures.tells))
+
+pub returns-in-Err-WriteFault-clause-kept : goal.returns-in-Err-WriteFault-clause-kept
+returns-in-Err-WriteFault-clause-kept g c = λ told saved tells is. (_, c.restart.ensures.faults, c.run_script.ensures.ends (begun told saved _) (begins_at told saved _ _ tells is c.restart.ensures.images c.restart.ensures.tells))
+
+pub returns-in-Err-NoMemory-clause-kept : goal.returns-in-Err-NoMemory-clause-kept
+returns-in-Err-NoMemory-clause-kept g c = λ told saved tells is. (_, c.restart.ensures.faults, c.run_script.ensures.ends (begun told saved _) (begins_at told saved _ _ tells is c.restart.ensures.images c.restart.ensures.tells))

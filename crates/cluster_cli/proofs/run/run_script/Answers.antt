@@ -7,6 +7,7 @@ use Rattle.cluster_cli.proofs.FaultLemmas.{handed_on}
 use Rattle.cluster_cli.proofs.CutLemmas.{leaves, same_fault, cut_at_start}
 use Rattle.cluster_cli.proofs.AnsweredLemmas.{held_whole}
 use Rattle.cluster_cli.proofs.ReadLemmas.{reported_so_far}
+use Rattle.cluster_cli.proofs.OnwardLemmas.{runs_none, runs_then, at_same, out_then, out_here}
 use Rattle.cluster_cli.proofs.run.run_script.Goals as goal
 
 pub returns-clause-told : goal.returns-clause-told
@@ -46,3 +47,12 @@ returns-in_err-finish-clause-stops g c = λ stop is first script before at left 
     let stopped = handed_on c.finish.result c.from_residual-in_err-finish.result p.0 stop (c.in_err-finish.was ∙ ap Err (sym p.2)) p.1 is in
     let start = starts _ first script before c.begin-session.result _ _ _ c.begin-session.ensures.empty c.begin-session.ensures.closed at left told in
     c.finish.ensures.stops stop stopped first script before (c.in_ok-answer_pieces.ensures.told first script before start)
+
+pub returns-in_err-room-clause-ends : goal.returns-in_err-room-clause-ends
+returns-in_err-room-clause-ends g c = λ first at. out_here _ first _ _ (runs_none _ first _ _ at)
+
+pub returns-in_err-finish-clause-ends : goal.returns-in_err-finish-clause-ends
+returns-in_err-finish-clause-ends g c = λ first at. out_then _ first _ _ _ (c.in_ok-answer_pieces.ensures.runs first (at_same _ _ _ first c.begin-session.ensures.closed at)) c.in_err-finish.ensures.ends
+
+pub returns-clause-ends : goal.returns-clause-ends
+returns-clause-ends g c = λ first at. out_here _ first _ _ (runs_then _ first _ _ _ _ (c.in_ok-answer_pieces.ensures.runs first (at_same _ _ _ first c.begin-session.ensures.closed at)) c.in_ok-finish.ensures.runs)

@@ -62,3 +62,6 @@ returns-clause-complete g c = λ script before commands hosts count left was pla
     (λ e. let fault = subst (λ (s : Status). EndsReport c.args.site.hosts.items (up_to (begun false unknown ends.0) (g.D.Disk.view new.0)) script before s (g.S.Source.left c.run_words-status.new.source) (g.K.Sink.written c.run_words-status.new.sink)) e ends.2 in
     no_first_fault script commands fault.n fault.commands is fault.faulty)
     (λ e. no_read (why.read e)) (λ e. no_write (why.write e)))
+
+pub returns-clause-kept : goal.returns-clause-kept
+returns-clause-kept g c = λ planned old new disks. c.run_words-status.ensures.kept (λ none. none planned.0 planned.1 planned.2) old new disks

@@ -6,6 +6,7 @@ use Rattle.cluster_cli.specs.declared.session.Session.{Session}
 use Rattle.cluster_cli.proofs.FaultLemmas.{handed_on, closes_faulty, ended_past, formless}
 use Rattle.cluster_cli.proofs.CutLemmas.{leaves, stop_told, line_cut}
 use Rattle.cluster_cli.proofs.script.close.Goals.{then-session-ge-MOST_LINES-via-then-session-ge-MOST_LINES, then-session-ge-MOST_LINES-via-else-session-ge-MOST_LINES+then-length-session}
+use Rattle.cluster_cli.proofs.OnwardLemmas.{runs_none, out_here}
 use Rattle.cluster_cli.proofs.script.close.Goals as goal
 
 pub returns-clause-told : goal.returns-clause-told
@@ -40,3 +41,6 @@ returns-in_err-answer_line-clause-stops g c = λ stop is first given before afte
     let form = c.answer_line.ensures.form n named in
     closes_faulty _ first given before after c.args.session.now _ _ _ _ n (λ state at. is_left _ _ state (c.answer_line.ensures.as_before n named state at)) form.0 (c.answer_line.ensures.kept n named) (formless _ _ c.deref.result.now _ _ c.deref.ensures.value form.1 form.2) so_far)
     (line_cut _ first given _ before c.args.session.now _ _ _ _ c.deref.result.now so_far c.deref.ensures.value (omega (arith, c.deref.ensures.len, short)) (λ more. omega (arith, c.if-session-ge-MOST_LINES.false)) (omega (arith, c.if-session-ge-MOST_LINES.false)) (omega (arith, c.deref.ensures.len, small)) refl c.in_err-answer_line.ensures.cut)
+
+pub returns-then-session-ge-MOST_LINES-clause-ends : goal.returns-then-session-ge-MOST_LINES-clause-ends
+returns-then-session-ge-MOST_LINES-clause-ends g c = λ state at. out_here _ state _ _ (runs_none _ state _ _ at)

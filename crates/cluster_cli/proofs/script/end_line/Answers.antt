@@ -6,6 +6,8 @@ use Rattle.cluster_cli.specs.Progress.{Reached}
 use Rattle.cluster_cli.proofs.ProgressLemmas.{holds}
 use Rattle.cluster_cli.proofs.FaultLemmas.{handed_on, held_past, ended_line}
 use Rattle.cluster_cli.proofs.CutLemmas.{leaves, left_as, nothing_more}
+use Rattle.cluster_cli.proofs.OnwardLemmas.{runs_none, out_here}
+use Rattle.cluster_cli.proofs.CutLemmas.{on_err}
 use Rattle.cluster_cli.proofs.script.end_line.Goals as goal
 
 pub returns-clause-told : goal.returns-clause-told
@@ -29,3 +31,6 @@ returns-in_err-close-clause-stops g c = λ stop is no_feed first given before af
     let told = handed_on c.close.result c.from_residual-in_err-close.result p.0 stop (c.in_err-close.was ∙ ap Err (sym p.2)) p.1 is in
     left_as _ (up_to first _) _ _ before stop _ (append_assoc given c.args.rest.now (line_feed ∷ after) ∙ ended_line given c.args.rest.now after)
     (c.close.ensures.stops stop told first (given ++ c.args.rest.now) before after (holds _ _ _ _ _ _ _ _ _ c.in_ok-hold.ensures.held no_feed so_far))
+
+pub returns-in_err-hold-clause-ends : goal.returns-in_err-hold-clause-ends
+returns-in_err-hold-clause-ends g c = on_err c.from_residual.result _ (λ state at. out_here _ state _ _ (runs_none _ state _ _ at))

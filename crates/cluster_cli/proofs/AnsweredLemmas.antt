@@ -20,7 +20,7 @@ use Rattle.cluster_cli.specs.Kept.{IsStored, IsHeld}
 
 -- ---- counts
 
-rose_on : (old mid new : ℕ) → mid ≤ new → Rose old mid → Rose old new
+pub rose_on : (old mid new : ℕ) → mid ≤ new → Rose old mid → Rose old new
 rose_on old mid new le rose = λ below. let before = rose (omega (arith, le, below)) in omega (arith, le, before)
 
 rose_back : (old mid new : ℕ) → old ≤ mid → Rose mid new → Rose old new

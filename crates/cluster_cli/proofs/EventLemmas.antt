@@ -1,5 +1,5 @@
 -- Events go on, or are broken off.
-use Rattle.std.proofs.Common.{◌≡◌, inl, inr, ℕ, List, [], ◌∷◌, ◌++◌, refl, sym, ◌∙◌, ap, append_assoc, Bool, Result, Ok, Err, IfOk, OnErr}
+use Rattle.std.proofs.Common.{◌≡◌, inl, inr, ℕ, List, [], ◌∷◌, ◌++◌, refl, sym, ◌∙◌, ap, append_assoc, Bool, Result, Ok, Err, IfOk}
 use Rattle.script_lines.specs.declared.command.Event.{Event}
 use Rattle.script_lines.specs.declared.answer.Outcome.{Outcome}
 use Rattle.cluster_cli.specs.State.{State, EventRun}
@@ -24,11 +24,6 @@ next_none state (event ∷ rest) = inl refl
 pub breaks_between : (old new : State) (events done rest : List Event) (outcomes : List Outcome) → events ≡ done ++ rest → EventRun old done outcomes new → EventsBreak old events new
 breaks_between old new events done rest outcomes whole run =
     record { done = done; rest = rest; outcomes = outcomes; mid = new; whole = whole; run = run; then_ = next_none new rest }
-
--- what holds anyhow holds of an error
-pub on_err : {T E : Type 0} (r : Result T E) (P : Type 0) → P → OnErr r P
-on_err (Ok value) P is = tt
-on_err (Err fault) P is = is
 
 -- one event more is done
 pub turn : (events done : List Event) (event : Event) (rest before : List Event) → events ≡ done ++ before → before ≡ event ∷ rest → events ≡ (done ++ event ∷ []) ++ rest

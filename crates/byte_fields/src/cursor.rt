@@ -1,9 +1,11 @@
+//! A text and an offset in it, read field by field.
 ghost use Rattle.std.specs.Prelude.{◌≡◌, ◌↔◌, ℕ, ◌<◌, ◌≤◌, ◌^◌, List, [], ◌++◌, length, IsTrue, IsOk, IfOk, IsOkAnd, IfErr, OnErr};
 ghost use Rattle.byte_fields.specs.Counted.{counted_text, counted8_text, counted16_text, counted32_text, counted_length};
 ghost use Rattle.byte_fields.specs.Numbers.{bytes_of, bytes8, bytes16, bytes32, bytes64};
 ghost use Rattle.byte_fields.specs.Reading.{rest_of, Passes};
 
 use crate::fault::Short;
+use crate::numbers::number_of;
 use std::marker::Model;
 
 /// Reads the fields of a text one after the other.
@@ -12,7 +14,7 @@ use std::marker::Model;
 #[derive(Drop)]
 pub struct Cursor<'a> {
     text: &'a [u8],
-    place: usize,
+    offset: usize,
 }
 
 impl<'a> Model for Cursor<'a> {
@@ -21,32 +23,32 @@ impl<'a> Model for Cursor<'a> {
 
     ghost Value = { Reading };
 
-    ghost view = { λ c. record { text = c.text.now; place = c.place } };
+    ghost view = { λ c. record { text = c.text.now; offset = c.offset } };
 
-    ghost invariant = { λ c. c.place ≤ length c.text.now };
+    ghost invariant = { λ c. c.offset ≤ length c.text.now };
 }
 
 impl<'a> Cursor<'a> {
-    /// Stands at the first byte of a text, place 0.
+    /// Stands at the first byte of a text, offset 0.
     pub fn over(text: &'a [u8]) -> Cursor<'a>
-        ensures { result ≡ record { text = text.now; place = 0 } }
+        ensures { result ≡ record { text = text.now; offset = 0 } }
     {
-        Cursor { text, place: 0 }
+        Cursor { text, offset: 0 }
     }
 
-    /// Tells its place, from 0: how many bytes it has passed.
+    /// Its offset, from 0: how many bytes it has passed.
     pub fn at(&self) -> u64
-        ensures place { result ≡ self.now.place }
-        ensures within { self.now.place ≤ length self.now.text }
+        ensures offset { result ≡ self.now.offset }
+        ensures within { self.now.offset ≤ length self.now.text }
     {
-        self.place as u64
+        self.offset as u64
     }
 
-    /// Tells whether no byte is left.
+    /// Whether no byte is left.
     pub fn is_at_end(&self) -> bool
         ensures { IsTrue result ↔ (rest_of self.now ≡ []) }
     {
-        self.text[self.place..].is_empty()
+        self.text[self.offset..].is_empty()
     }
 
     /// Reads a number of one byte.
@@ -188,13 +190,13 @@ impl<'a> Cursor<'a> {
         Ok(bytes)
     }
 
-    /// Another cursor at the same place of the same text.
+    /// Another cursor at the same offset of the same text.
     fn ahead(&self) -> Cursor<'a>
         ensures { result ≡ self.now }
     {
         Cursor {
             text: self.text,
-            place: self.place,
+            offset: self.offset,
         }
     }
 
@@ -206,26 +208,13 @@ impl<'a> Cursor<'a> {
         ensures fault_at { IfErr result (λ short. short.at ≡ length self.old.text) }
         ensures unchanged { OnErr result (self.new ≡ self.old) }
     {
-        let rest = &self.text[self.place..];
+        let rest = &self.text[self.offset..];
         if rest.len() < count {
             return Err(Short {
                 at: self.text.len() as u64,
             });
         }
-        self.place += count;
+        self.offset += count;
         Ok(&rest[..count])
     }
-}
-
-/// The number that bytes spell, the highest first.
-fn number_of(bytes: &[u8]) -> u64
-    requires { length bytes.now ≤ 8 }
-    ensures text { bytes_of (length bytes.now) result ≡ bytes.now }
-    ensures below { result < 256 ^ length bytes.now }
-{
-    let mut number = 0;
-    for byte in bytes {
-        number = number * 256 + u64::from(*byte);
-    }
-    number
 }

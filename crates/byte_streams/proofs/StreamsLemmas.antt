@@ -1,17 +1,17 @@
--- How a writing of a text goes on from write to write.
-use Rattle.std.proofs.Common.{◌≡◌, ℕ, ◌+◌, ◌-◌, min, List, ◌++◌, length, take, drop, Some, sym, ap, ◌∙◌, append_assoc, arith}
+-- How the writing of a text goes on from write to write, and what was added so far.
+use Rattle.std.proofs.Common.{◌≡◌, ℕ, ◌+◌, ◌-◌, ◌<◌, List, [], ◌++◌, length, take, drop, length-drop, Some, refl, sym, ap, ◌∙◌, append_assoc, arith}
 use Rattle.std.specs.Option.{ForSome}
 use Rattle.std.specs.declared.option.Option.{Option}
-use Rattle.std.proofs.Math.Seq.{take-add, take-append-add}
+use Rattle.std.proofs.Math.Seq.{take-add}
 use Rattle.std.proofs.lemmas.Grind.{common_steps}
-use Rattle.std.proofs.lemmas.List.{take-append-le}
-use Rattle.byte_streams.specs.Streams.{CameSoFar}
+use Rattle.std.proofs.lemmas.List.{append-nil, take-append-drop}
+use Rattle.byte_streams.specs.Streams.{Adds, AddsPrefix, AddsPart}
 
--- the bytes of a slice from a place on
-behind : (text : List ℕ) (done : ℕ) → take (length text - done) (drop done text) ≡ drop done text
-behind text done = grind (arith, common_steps)
+-- the bytes of a slice from an offset on
+following : (text : List ℕ) (done : ℕ) → take (length text - done) (drop done text) ≡ drop done text
+following text done = grind (arith, common_steps)
 
--- a front of the text stands there, and then some of the bytes behind it
+-- a prefix of the text stands there, and then some of the bytes after it
 pub writes_on : (before mid after : Option (List ℕ)) (text : List ℕ) (done n : ℕ)
     → ForSome before (λ bytes. mid ≡ Some (bytes ++ take done text))
     → ForSome mid (λ bytes. after ≡ Some (bytes ++ take n (take (length text - done) (drop done text))))
@@ -19,23 +19,41 @@ pub writes_on : (before mid after : Option (List ℕ)) (text : List ℕ) (done n
 writes_on before mid after text done n so_far more bytes told =
     more (bytes ++ take done text) (so_far bytes told)
     ∙ ap (λ (l : List ℕ). Some l) (append_assoc bytes (take done text) (take n (take (length text - done) (drop done text)))
-    ∙ ap (λ (l : List ℕ). bytes ++ (take done text ++ take n l)) (behind text done)
+    ∙ ap (λ (l : List ℕ). bytes ++ (take done text ++ take n l)) (following text done)
     ∙ ap (λ (l : List ℕ). bytes ++ l) (sym (take-add done n text)))
 
--- a front of a text, cut at the text's end
-cut_at_end : (some : ℕ) (text : List ℕ) → take some text ≡ take (min some (length text)) text
-cut_at_end some text = grind (arith, common_steps)
+-- ---- what was added
 
--- a front of a text is one of a longer text
-pub front_of_longer : (bytes text more : List ℕ) (after : Option (List ℕ)) → CameSoFar bytes text after → CameSoFar bytes (text ++ more) after
-front_of_longer bytes text more after front = (
-  min front.0 (length text),
-  front.1 ∙ ap (λ (l : List ℕ). Some (bytes ++ l)) (cut_at_end front.0 text ∙ sym (take-append-le (min front.0 (length text)) text more (omega arith))),
-)
+pub adds_none : (old : Option (List ℕ)) → Adds old [] old
+adds_none old = λ bytes is. is ∙ ap (λ (l : List ℕ). Some l) (sym (append-nil bytes))
 
--- a text stands whole, and then a front of what comes behind it
-pub front_behind_whole : (bytes text more : List ℕ) (after : Option (List ℕ)) → CameSoFar (bytes ++ text) more after → CameSoFar bytes (text ++ more) after
-front_behind_whole bytes text more after front = (
-  length text + front.0,
-  front.1 ∙ ap (λ (l : List ℕ). Some l) (append_assoc bytes text (take front.0 more) ∙ ap (λ (l : List ℕ). bytes ++ l) (sym (take-append-add text more front.0))),
-)
+-- nothing of the text was added
+pub no_prefix : (old : Option (List ℕ)) (text : List ℕ) → AddsPrefix old text old
+no_prefix old text = record { prefix = []; rest = text; text_is = refl; added = adds_none old }
+
+pub adds_joined : (old mid new : Option (List ℕ)) (a b : List ℕ) → Adds old a mid → Adds mid b new → Adds old (a ++ b) new
+adds_joined old mid new a b first then_ = λ bytes is. then_ (bytes ++ a) (first bytes is) ∙ ap (λ (l : List ℕ). Some l) (append_assoc bytes a b)
+
+pub prefix_joined : (old mid new : Option (List ℕ)) (a b : List ℕ) → Adds old a mid → AddsPrefix mid b new → AddsPrefix old (a ++ b) new
+prefix_joined old mid new a b first then_ = record {
+  prefix = a ++ then_.prefix;
+  rest = then_.rest;
+  text_is = ap (λ (l : List ℕ). a ++ l) then_.text_is ∙ sym (append_assoc a then_.prefix then_.rest);
+  added = adds_joined old mid new a then_.prefix first then_.added;
+}
+
+pub whole_prefix : (old new : Option (List ℕ)) (text : List ℕ) → Adds old text new → AddsPrefix old text new
+whole_prefix old new text added = record { prefix = text; rest = []; text_is = sym (append-nil text); added = added }
+
+-- ---- a text that isn't written whole
+
+-- bytes that are fewer than the text has
+pub part_of : (old new : Option (List ℕ)) (text : List ℕ) (done : ℕ) → done < length text → Adds old (take done text) new → AddsPart old text new
+part_of old new text done less added = record {
+  part = record { prefix = take done text; rest = drop done text; text_is = sym (take-append-drop done text); added = added };
+  missing = λ none. (let sizes : length (drop done text) ≡ 0 = ap length none in omega (arith, sizes, length-drop done text));
+}
+
+-- what is written as before
+pub part_kept : (old mid new : Option (List ℕ)) (text : List ℕ) (done : ℕ) → done < length text → Adds old (take done text) mid → ForSome mid (λ bytes. new ≡ Some bytes) → AddsPart old text new
+part_kept old mid new text done less added same = part_of old new text done less (λ bytes is. same (bytes ++ take done text) (added bytes is))

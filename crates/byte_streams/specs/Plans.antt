@@ -1,6 +1,7 @@
 -- Streams in memory, as their callers see them: their bytes, and which of their calls fail.
-use Rattle.std.specs.Prelude.{ℕ, ◌+◌, ◌-◌, ◌^◌, min, List}
+use Rattle.std.specs.Prelude.{ℕ, List}
 use Rattle.std.specs.List.{Contains}
+use Rattle.fault_count.specs.OneMore.{one_more_than}
 
 -- a source or a sink in memory
 pub record MemoryStream : Type 0 where
@@ -15,18 +16,14 @@ pub record MemoryStream : Type 0 where
   -- the numbers of the calls that fail, from 1
   pub planned : List ℕ
 
--- the next count, which stays at the end of 64 bits
-abbrev pub one_more : ℕ → ℕ
-one_more count = min (count + 1) (2 ^ 64 - 1)
-
 -- the next call is one that the plan lets fail
 abbrev pub FailsNext : MemoryStream → Type 0
-FailsNext stream = Contains stream.planned (one_more stream.calls)
+FailsNext stream = Contains stream.planned (one_more_than stream.calls)
 
 -- one call later, with these bytes
 abbrev pub called : MemoryStream → List ℕ → MemoryStream
-called stream bytes = record stream { bytes = bytes; calls = one_more stream.calls }
+called stream bytes = record stream { bytes = bytes; calls = one_more_than stream.calls }
 
 -- one call later, which failed
 abbrev pub failed : MemoryStream → MemoryStream
-failed stream = record stream { calls = one_more stream.calls; faults = one_more stream.faults }
+failed stream = record stream { calls = one_more_than stream.calls; faults = one_more_than stream.faults }

@@ -1,12 +1,15 @@
 //! Byte streams: the source of a script and the sink of a report.
 //!
 //! Seen as: a source by the bytes that are left, a sink by the bytes written, and both by a count of
-//!   faults. A stream may tell no bytes; then its clauses on bytes say nothing.
-//! Keeps: bytes come in order, each once. `Failed` is answered only where the count rose in that call.
+//! faults. A stream may tell no bytes; then its clauses on bytes say nothing.
+//! Keeps: bytes come in order, each once. `Failed` is answered only where the count rose in that call, and any other
+//! answer leaves the count. A write that is answered Ok takes at least one byte of a piece that has one.
 //! Hides: how many bytes a call moves; `write_all` makes as many calls as a text needs.
-//! Not here: what the bytes say, and where a line ends.
 //! In memory: `MemorySource`, `MemorySink`, which tell their bytes and fail where their plan says so.
-//! Outside: `StandardSource`, `StandardSink`, which count their faults and tell nothing.
+//! Outside: `StandardSource` over any reader of std, `StandardSink` over any writer. They tell what those tell, which is
+//! nothing for the standard input and output, and count their errors as faults, out of memory aside.
+//! Not here: what the bytes say, and where a line ends.
+//! Laws: StreamsLemmas (what was added to a sink by one text after another).
 #![tactic(auto)]
 
 mod fault;
@@ -15,8 +18,6 @@ mod memory_source;
 mod sink;
 mod source;
 mod standard;
-#[cfg(test)]
-mod tests;
 
 pub use fault::{SinkRefusal, SourceRefusal};
 pub use memory_sink::MemorySink;

@@ -1,7 +1,7 @@
 // A sink in memory, which fails where its plan says so.
 ghost use Rattle.std.specs.Prelude.{◌≡◌, ◌≤◌, ◌↔◌, [], ◌++◌, min, length, take, Some, IfOk};
 ghost use Rattle.std.specs.Result.{IsErrOf};
-ghost use Rattle.byte_streams.specs.Streams.{WritesTo, FaultsAtZero, HasCause};
+ghost use Rattle.byte_streams.specs.Streams.{WritesTo, TakesSome, HasCause};
 ghost use Rattle.byte_streams.specs.Plans.{FailsNext, called, failed};
 
 use crate::{Sink, SinkRefusal};
@@ -70,7 +70,7 @@ impl Sink for MemorySink {
     fn write(&mut self, piece: &[u8]) -> Result<usize, SinkRefusal>
         ensures bound { IfOk result (λ n. n ≤ length piece.now) }
         ensures told { WritesTo (Some self.old.bytes) (Some self.new.bytes) piece.now result }
-        ensures zero { FaultsAtZero self.old.faults self.new.faults (length piece.now) result }
+        ensures some { TakesSome (length piece.now) result }
         ensures cause { HasCause SinkRefusal.Failed self.old.faults self.new.faults result }
 
         // A call fails exactly where it is planned to, and else takes all that it may.

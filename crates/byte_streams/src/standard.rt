@@ -1,45 +1,43 @@
-// The streams of the process. They tell nothing of what they hold, and count their faults.
+// Readers and writers of std as streams, and the process's own among them.
 ghost use Rattle.std.specs.Prelude.{◌≡◌};
 
 use crate::{Sink, SinkRefusal, Source, SourceRefusal};
 use fault_count::one_more;
-use std::io::Read;
-use std::marker::Model;
+use std::io::{self, ErrorKind, Printer, Read, Write};
 
-/// Standard input, seen as the count of its faults.
+/// A reader of std as a source. It tells the bytes that the reader tells.
 #[derive(Drop)]
-pub struct StandardSource<'a, R: Input> {
-    rt: &'a R,
+pub struct StandardSource<R: Read + Drop> {
+    reader: R,
     faults: u64,
 }
 
-impl<'a, R: Input> Model for StandardSource<'a, R> {
-    ghost use Rattle.std.specs.Prelude.{ℕ};
-
-    ghost Value = { ℕ };
-
-    ghost view = { λ s. s.faults };
-}
-
-impl<'a, R: Input> StandardSource<'a, R> {
-    /// Standard input. It hasn't failed yet.
-    pub fn new(rt: &'a R) -> Self
-        ensures { result ≡ 0 }
+impl<R: Read + Drop> StandardSource<R> {
+    /// The reader, with no fault so far.
+    pub fn over(reader: R) -> Self
+        ensures left { ⟦<StandardSource<R> as Source>⟧.left result ≡ R.remaining reader }
+        ensures faults { ⟦<StandardSource<R> as Source>⟧.faults result ≡ 0 }
     {
-        StandardSource { rt, faults: 0 }
+        StandardSource { reader, faults: 0 }
+    }
+
+    /// The standard input, with no fault so far.
+    pub fn new<I: Input<Reader = R>>(rt: &I) -> Self
+        ensures { ⟦<StandardSource<R> as Source>⟧.faults result ≡ 0 }
+    {
+        StandardSource::over(rt.reader())
     }
 }
 
-impl<'a, R: Input> Source for StandardSource<'a, R> {
-    ghost use Rattle.std.specs.Prelude.{None};
+impl<R: Read + Drop> Source for StandardSource<R> {
+    ghost left = { λ s. R.remaining s.reader };
 
-    ghost left = { λ _. None };
-
-    ghost faults = { λ count. count };
+    ghost faults = { λ s. s.faults };
 
     fn read(&mut self, into: &mut [u8]) -> Result<usize, SourceRefusal> {
-        match self.rt.reader().read(into) {
+        match self.reader.read(into) {
             Ok(count) => Ok(count),
+            Err(error) if error.kind() == ErrorKind::OutOfMemory => Err(SourceRefusal::NoMemory),
             Err(_) => {
                 self.faults = one_more(self.faults);
                 Err(SourceRefusal::Failed)
@@ -48,46 +46,42 @@ impl<'a, R: Input> Source for StandardSource<'a, R> {
     }
 }
 
-/// Standard output, seen as the count of its faults. Each write reaches it at once.
+/// A writer of std as a sink. It tells the bytes that the writer tells.
 #[derive(Drop)]
-pub struct StandardSink<'a, R: Print> {
-    rt: &'a R,
+pub struct StandardSink<W: Write + Drop> {
+    writer: W,
     faults: u64,
 }
 
-impl<'a, R: Print> Model for StandardSink<'a, R> {
-    ghost use Rattle.std.specs.Prelude.{ℕ};
-
-    ghost Value = { ℕ };
-
-    ghost view = { λ s. s.faults };
-}
-
-impl<'a, R: Print> StandardSink<'a, R> {
-    /// Standard output. It hasn't failed yet.
-    pub fn new(rt: &'a R) -> Self
-        ensures { result ≡ 0 }
+impl<W: Write + Drop> StandardSink<W> {
+    /// The writer, with no fault so far.
+    pub fn over(writer: W) -> Self
+        ensures written { ⟦<StandardSink<W> as Sink>⟧.written result ≡ W.contents writer }
+        ensures faults { ⟦<StandardSink<W> as Sink>⟧.faults result ≡ 0 }
     {
-        StandardSink { rt, faults: 0 }
+        StandardSink { writer, faults: 0 }
     }
 }
 
-impl<'a, R: Print> Sink for StandardSink<'a, R> {
-    ghost use Rattle.std.specs.Prelude.{None};
+impl<'a, P: Print> StandardSink<Printer<'a, P>> {
+    /// The standard output, with no fault so far. Each write reaches it at once.
+    pub fn new(rt: &'a P) -> Self
+        ensures { ⟦<StandardSink<Printer<'a, P>> as Sink>⟧.faults result ≡ 0 }
+    {
+        StandardSink::over(io::writer(rt))
+    }
+}
 
-    ghost written = { λ _. None };
+impl<W: Write + Drop> Sink for StandardSink<W> {
+    ghost written = { λ s. W.contents s.writer };
 
-    ghost faults = { λ count. count };
+    ghost faults = { λ s. s.faults };
 
     fn write(&mut self, piece: &[u8]) -> Result<usize, SinkRefusal> {
-        match self.rt.write_some(piece) {
-            Ok(count) => {
-                if count == 0 && !piece.is_empty() {
-                    self.faults = one_more(self.faults);
-                }
-                Ok(count)
-            }
-            Err(_) => {
+        match self.writer.write(piece) {
+            Ok(count) if count > 0 || piece.is_empty() => Ok(count),
+            Err(error) if error.kind() == ErrorKind::OutOfMemory => Err(SinkRefusal::NoMemory),
+            _ => {
                 self.faults = one_more(self.faults);
                 Err(SinkRefusal::Failed)
             }

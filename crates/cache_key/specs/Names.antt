@@ -14,7 +14,7 @@ most_key_bytes = 1024
 abbrev pub most_value_bytes : ℕ
 most_value_bytes = 65536
 
--- from the first to the last
+-- the byte is one from the first to the last
 abbrev pub is_between : ℕ → ℕ → ℕ → Bool
 is_between first last byte = nat_le first byte && nat_le byte last
 
@@ -22,7 +22,7 @@ is_between first last byte = nat_le first byte && nat_le byte last
 abbrev pub is_name_byte : ℕ → Bool
 is_name_byte byte = is_between 65 90 byte || is_between 97 122 byte || is_between 48 57 byte || byte == 95 || byte == 46 || byte == 45
 
--- the byte is of the alphabet of names
+-- the byte is in the alphabet of names
 abbrev pub IsNameByte : ℕ → Type 0
 IsNameByte byte = IsTrue (is_name_byte byte)
 
@@ -43,12 +43,12 @@ pub record IsValue (bytes : List ℕ) : Type 0 where
   pub most : length bytes ≤ most_value_bytes
   pub utf8 : IsUtf8 bytes
 
--- the first byte outside the alphabet of names stands at this place, counted from 0
+-- the first byte outside the alphabet of names stands at this offset, from 0
 pub record IsFirstBadByte (bytes : List ℕ) (at : ℕ) : Type 0 where
   pub within : at < length bytes
   pub bad : is_name_byte (slice_index bytes at) ≡ false
-  pub before : (place : ℕ) → place < at → IsNameByte (slice_index bytes place)
+  pub before : (offset : ℕ) → offset < at → IsNameByte (slice_index bytes offset)
 
--- a text that isn't too long for a name is spoilt by the byte at this place, the first bad one
+-- the text is not too long for a name, and its first bad byte stands at this offset
 abbrev pub IsSpoiltAt : List ℕ → ℕ → Type 0
 IsSpoiltAt bytes at = (length bytes ≤ most_name_bytes) × IsFirstBadByte bytes at

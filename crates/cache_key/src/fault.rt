@@ -1,17 +1,17 @@
-//! Why a text is refused.
+//! The faults of a text.
 ghost use Rattle.std.specs.Prelude.{◌≡◌};
 ghost use Rattle.cache_key.specs.declared.fault.NameFault.TheVariants.{NoMemory};
 
 use std::alloc::AllocError;
 
-/// Why a text can't be made a name, a key or a value. They are judged in this order.
+/// Why a text is no name, key or value. They are judged in this order.
 #[derive(Clone, Copy, Debug, PartialEq, Eq)]
 pub enum NameFault {
     /// It has no byte.
     Empty,
     /// It has more bytes than the limit.
     Long,
-    /// The first byte outside the alphabet, counted from 0.
+    /// The byte at this offset, from 0, is the first one outside the alphabet.
     BadByte(u32),
     /// There was no memory for the copy.
     NoMemory,

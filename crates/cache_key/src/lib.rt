@@ -1,23 +1,27 @@
-//! The texts that name things in a cache, and the partition of a key.
+//! The texts that name things in a cache, the requests of a client, and the partition of a key.
 //!
 //! Seen as: each text is the list of its bytes (`IsName`, `IsKey`, `IsValue`, specs/Names.antt).
-//! Keeps: a text keeps its limits as long as it lives; equality and order are those of the bytes.
+//! Keeps: a text keeps the limits of its kind as long as it lives. Equality and order are those of the bytes.
 //! Hides: that a text is a `String`.
-//! Not here: what a request does to a cache (cache_model), how a text is spelled in a file (record_form).
+//! Not here: what a request does to a cache (cache_model), the bytes of a text in a file (record_form).
 //! The partition of a key: `hash_partition`, specs/Partition.antt.
 #![tactic(auto)]
 
 mod check;
 mod fault;
+mod keys;
+mod limits;
 mod names;
 mod partition;
+mod reason;
 mod request;
-#[cfg(test)]
-mod tests;
-mod texts;
+mod text;
 
 pub use fault::NameFault;
+pub use keys::{Key, Value};
+pub use limits::{MOST_KEY_BYTES, MOST_NAME_BYTES, MOST_VALUE_BYTES, is_in_alphabet};
 pub use names::{CacheName, HostName, SnapshotName};
 pub use partition::{fnv1a, partition_of};
+pub use reason::{Excerpt, TextReason};
 pub use request::{EntryKey, Mutation, Reply, Request};
-pub use texts::{Key, Value};
+pub use text::{Limits, Text};

@@ -1,11 +1,11 @@
-//! What a client may ask of a cache, what of it is kept, and what it is answered.
+//! The requests of a client, the mutations that are kept of them, and the replies.
 ghost use Rattle.std.specs.Prelude.{◌≡◌, IfOk};
 
+use crate::keys::{Key, Value};
 use crate::names::CacheName;
-use crate::texts::{Key, Value};
 use std::alloc::AllocError;
 
-/// Where an entry stands. The order is by cache, then by key.
+/// A key with its cache. The order is by cache, then by key.
 #[derive(PartialEq, Eq, PartialOrd, Ord, Debug, Drop)]
 pub struct EntryKey {
     pub cache: CacheName,
@@ -28,14 +28,14 @@ pub enum Mutation {
     Put(CacheName, Key, Value),
 }
 
-/// What a client is answered.
+/// The reply to a request.
 #[derive(PartialEq, Eq, Debug, Drop)]
 pub enum Reply {
     /// The value at the key, if there is one.
     Value(Option<Value>),
-    /// How many there are.
+    /// A number of things.
     Count(u64),
-    /// It is done, and there is nothing to tell.
+    /// The request is done, and there is nothing more to say.
     Done,
 }
 

@@ -26,7 +26,7 @@ impl Model for Contents {
 }
 
 impl Contents {
-    /// No cache.
+    /// Contents without a cache.
     pub(crate) fn new(alloc: Global) -> Self
         ensures { result ≡ [] }
     {
@@ -42,7 +42,7 @@ impl Contents {
         &self.caches
     }
 
-    /// Makes the change of the mutation. Takes memory; after an error the contents are of no use.
+    /// Makes the change of the mutation. Takes memory. After an error the contents must not be used.
     pub(crate) fn apply(&mut self, alloc: Global, mutation: &Mutation) -> Result<(), AllocError>
         ensures { OnOk result (IsChangedBy (change_of mutation.now) self.old self.new) }
     {

@@ -1,5 +1,5 @@
-//! The plain program: it keeps the list of mutations, and reads the list afresh for each answer.
-ghost use Rattle.std.specs.Prelude.{◌≡◌, Some, None, IfOk, if◌then◌else◌};
+//! The plain program: it keeps the list of mutations, and reads the whole list for each answer.
+ghost use Rattle.std.specs.Prelude.{◌≡◌, Some, None, is_some, IfOk, if◌then◌else◌};
 ghost use Rattle.std.specs.Option.{option_map, option_copied};
 ghost use Rattle.cache_model.specs.Change.{change_of, changes_of, writes, value_left, rules, presence_left};
 ghost use Rattle.cache_model.specs.Contents.{value_after, is_present_after, AreContentsAfter};
@@ -66,6 +66,16 @@ pub fn reply_to(mutations: &[Mutation], request: &Request) -> Result<Reply, Allo
     }
 }
 
+/// Whether the request is a mutation, so that `as_mutation` of it gives one. Takes no memory.
+pub fn is_mutation(request: &Request) -> bool
+    ensures { result ≡ is_some (mutation_of request.now) }
+{
+    match request {
+        Request::Get(_, _) => false,
+        Request::Put(_, _, _) => true,
+    }
+}
+
 /// The mutation that the request is, if it is one. Takes no memory.
 pub fn as_mutation(request: Request) -> Option<Mutation>
     ensures { result ≡ mutation_of request }
@@ -76,7 +86,7 @@ pub fn as_mutation(request: Request) -> Option<Mutation>
     }
 }
 
-// What the mutation leaves at the key of the cache, where it decides that.
+// What the mutation leaves at the key of the cache, if it decides that.
 fn value_written<'a>(
     mutation: &'a Mutation,
     cache: &CacheName,
@@ -96,7 +106,7 @@ fn value_written<'a>(
     }
 }
 
-// Whether the mutation leaves the cache there, where it decides that.
+// Whether the mutation leaves the cache there, if it decides that.
 fn presence_ruled(mutation: &Mutation, cache: &CacheName) -> Option<bool>
     ensures { result
         ≡ (if rules (change_of mutation.now) cache.now then Some (presence_left (change_of mutation.now) cache.now) else None) }
@@ -106,7 +116,7 @@ fn presence_ruled(mutation: &Mutation, cache: &CacheName) -> Option<bool>
     }
 }
 
-// The reply with a copy of the value.
+// The reply that has a copy of the value.
 fn value_reply(value: Option<&Value>) -> Result<Reply, AllocError>
     ensures { IfOk result (λ reply. reply ≡ Reply.Value (option_copied value.entry)) }
 {

@@ -1,27 +1,28 @@
--- What the code and the disk come to with a command; where it wants memory it isn't answered, and the run ends.
-use Rattle.std.specs.Prelude.{◌≡◌, ℕ, ◌≤◌, ◌⊎◌, List, [], ◌∷◌, ◌++◌}
-use Rattle.cache_model.specs.Change.{put}
+-- How far a command may have come that memory ran out in: it isn't answered, and the run ends.
+use Rattle.std.specs.Prelude.{◌≡◌, ◌≢◌, ℕ, ◌⊎◌, List, [], ◌∷◌, ◌++◌, Contains, false}
+use Rattle.cache_key.specs.declared.request.Request.{Request}
+use Rattle.cache_model.specs.Reply.{changes_asked}
 use Rattle.script_lines.specs.declared.command.Command.{Command}
 use Rattle.script_lines.specs.declared.command.Command.TheVariants.{Create, Steps}
 use Rattle.script_lines.specs.declared.command.Event.{Event}
-use Rattle.script_lines.specs.declared.command.Event.TheVariants.{Get, Put}
+use Rattle.script_lines.specs.declared.command.Event.TheVariants.{Call}
 use Rattle.script_lines.specs.declared.answer.Answer.{Answer}
 use Rattle.script_lines.specs.declared.answer.Outcome.{Outcome}
 use Rattle.disk_trait.specs.View.{View}
-use Rattle.cluster_cli.specs.Kept.{IsAt, IsLeft}
+use Rattle.disk_trait.specs.Moments.{Later}
+use Rattle.cluster_cli.specs.OnDisk.{IsInState, DiskIsIn}
 use Rattle.cluster_cli.specs.declared.cluster.Cluster.{Cluster}
-use Rattle.cluster_cli.specs.State.{Saved, unknown, Stage, closed, opened, failing, State, EventRun, CommandStep, Run}
+use Rattle.cluster_cli.specs.State.{KnownFiles, unknown, Stage, closed, opened, failing, State, Counts, EventRun, CommandStep}
 
--- the event's change is in flight
-abbrev pub IsInFlight : Stage → Event → Stage → Type 0
-IsInFlight (closed saved) event new = ⊥
-IsInFlight (opened served) (Get cache key) new = ⊥
-IsInFlight (opened served) (Put cache key written) new = new ≡ failing served (put cache key written ∷ [])
-IsInFlight (failing served flight) event new = ⊥
+-- the changes of the request are in flight
+abbrev pub IsInFlight : Stage → Request → Stage → Type 0
+IsInFlight (closed files) request new = ⊥
+IsInFlight (opened cluster) request new = (changes_asked request ≢ []) × (new ≡ failing cluster (changes_asked request))
+IsInFlight (failing cluster flight) request new = ⊥
 
--- the event is broken off: nothing is changed, or its change is in flight
+-- the event is broken off: nothing is changed, or its changes are in flight
 abbrev pub EventBreaks : State → Event → State → Type 0
-EventBreaks old event new = (old.faults ≤ new.faults) × ((new.stage ≡ old.stage) ⊎ IsInFlight old.stage event new.stage)
+EventBreaks old (Call request) new = Counts false old new × ((new.stage ≡ old.stage) ⊎ IsInFlight old.stage request new.stage)
 
 -- the events are broken off between two of them, or within the next
 abbrev pub NextBreaks : State → List Event → State → Type 0
@@ -39,42 +40,35 @@ pub record EventsBreak (old : State) (events : List Event) (new : State) : Type 
   pub then_ : NextBreaks mid rest new
 
 -- how far the command may have come
-pub data Breaks (hosts : List (List ℕ)) (old : State) (command : Command) (new : State) : Type 0 where
+pub data CommandBreaks (hosts : List (List ℕ)) (old : State) (command : Command) (new : State) : Type 0 where
   -- nothing of it is done
-  not_done : old.faults ≤ new.faults → new.stage ≡ old.stage → Breaks hosts old command new
-  -- all of it is done, and isn't told
-  not_told : (answer : Answer) → CommandStep hosts old command answer new → Breaks hosts old command new
-  -- a cluster was being made: the files may hold what they held, or nothing, or the empty store
-  half_made : (host : List ℕ) (saved : Saved) → command ≡ Create host → old.stage ≡ closed saved → old.faults ≤ new.faults → new.stage ≡ closed unknown → Breaks hosts old command new
+  not_done : Counts false old new → new.stage ≡ old.stage → CommandBreaks hosts old command new
+  -- a cluster was being made at a host of the site: the files may hold what they held, or nothing, or the empty store
+  half_made : (host : List ℕ) (files : KnownFiles) → command ≡ Create host → Contains hosts host → old.stage ≡ closed files → Counts false old new → new.stage ≡ closed unknown
+      → CommandBreaks hosts old command new
   -- some of its events are done
-  half_stepped : (events : List Event) → command ≡ Steps events → EventsBreak old events new → Breaks hosts old command new
+  half_stepped : (events : List Event) → command ≡ Steps events → EventsBreak old events new → CommandBreaks hosts old command new
+
+-- ---- the code and the disk
 
 -- the command was carried out, and the code and the disk have gone on with it
 pub record IsCarriedOut (hosts : List (List ℕ)) (old : State) (command : Command) (answer : Answer) (cluster : Cluster) (v : View) : Type 0 where
   pub new : State
-  pub at : IsAt cluster v new
+  pub at : IsInState cluster v new
   pub step : CommandStep hosts old command answer new
 
 -- the command was broken off, and the disk was left so
 pub record IsBrokenOff (hosts : List (List ℕ)) (old : State) (command : Command) (v : View) : Type 0 where
   pub new : State
-  pub at_end : IsLeft v new
-  pub breaks : Breaks hosts old command new
+  pub at_end : DiskIsIn v new
+  pub breaks : CommandBreaks hosts old command new
 
--- from this state the code and the disk have gone on by some commands that were carried out
-pub record RunsOn (hosts : List (List ℕ)) (first : State) (cluster : Cluster) (v : View) : Type 0 where
-  pub commands : List Command
-  pub answers : List Answer
-  pub last : State
-  pub run : Run hosts first commands answers last
-  pub at : IsAt cluster v last
+-- What a command that is answered so does to the code and the disk, in whatever state they are.
+pub record Carries (hosts : List (List ℕ)) (old : Cluster) (v : View) (command : Command) (answer : Answer) (new : Cluster) (w : View) : Type 0 where
+  pub step : (state : State) → IsInState old v state → IsCarriedOut hosts state command answer new w
+  pub later : Later v w
 
--- from this state some commands were carried out, and perhaps one was broken off behind them; so the disk was left
-pub record RunsOut (hosts : List (List ℕ)) (first : State) (v : View) : Type 0 where
-  pub commands : List Command
-  pub answers : List Answer
-  pub last : State
-  pub run : Run hosts first commands answers last
-  pub new : State
-  pub gone : (new ≡ last) ⊎ (command : Command) × Breaks hosts last command new
-  pub at_end : IsLeft v new
+-- What a command that is broken off does to them.
+pub record BreaksOff (hosts : List (List ℕ)) (old : Cluster) (v : View) (command : Command) (w : View) : Type 0 where
+  pub broken : (state : State) → IsInState old v state → IsBrokenOff hosts state command w
+  pub later : Later v w

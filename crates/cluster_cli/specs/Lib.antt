@@ -1,14 +1,6 @@
-pub mod Answered
 pub mod Breaks
-pub mod Codes
-pub mod Cuts
 pub mod Ends
-pub mod Faults
-pub mod Kept
-pub mod Progress
-pub mod Reads
-pub mod Report
-pub mod Script
+pub mod OnDisk
+pub mod Refusals
+pub mod Sites
 pub mod State
-pub mod Stops
-pub mod Told

@@ -1,6 +1,6 @@
 pub mod LaidLemmas
 pub mod ReplayLemmas
-pub mod ToldLemmas
+pub mod MemoryViewLemmas
 pub mod LoggedLemmas
 pub mod MirroredLemmas
 pub mod HistoryLemmas

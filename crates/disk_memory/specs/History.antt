@@ -1,16 +1,17 @@
 -- What contracts see of a disk: its plan, its history and its counts.
-use Rattle.std.specs.Prelude.{◌≡◌, ◌⊎◌, ℕ, ◌+◌, ◌-◌, ◌^◌, ◌≤◌, min, max, List, [], ◌++◌, Option, None, Result, Ok, Err, if◌then◌else◌, is_ok}
+use Rattle.std.specs.Prelude.{◌≡◌, ◌⊎◌, ℕ, ◌≤◌, List, [], ◌++◌, Option, None, Result, Ok, Err, if◌then◌else◌, is_ok}
 use Rattle.std.specs.List.{Contains}
 use Rattle.std.specs.Option.{IsSomeAnd}
+use Rattle.fault_count.specs.OneMore.{one_more_than}
 use Rattle.disk_trait.specs.View.{View}
 use Rattle.disk_trait.specs.declared.DiskRefusal.{DiskRefusal}
 use Rattle.disk_trait.specs.declared.DiskRefusal.TheVariants.{Failed, NoMemory}
-use Rattle.disk_memory.specs.Change.{Change}
+use Rattle.disk_memory.specs.DiskCall.{DiskCall}
 use Rattle.disk_memory.specs.Restarts.{Restarts}
 use Rattle.disk_memory.specs.Logged.{logged}
 use Rattle.disk_memory.specs.declared.plan.DiskPlan.{DiskPlan}
 use Rattle.disk_memory.specs.declared.disk.MemoryDisk.{MemoryDisk}
-use Rattle.disk_memory.specs.Told.{memory_view}
+use Rattle.disk_memory.specs.MemoryView.{memory_view}
 
 pub record History : Type 0 where
   -- the plan
@@ -19,7 +20,7 @@ pub record History : Type 0 where
   pub fail_reads : List ℕ
   pub fuse : Option ℕ
   -- the calls that changed it, with the restarts
-  pub changes : List Change
+  pub changes : List DiskCall
   -- how many changing calls and how many reading calls were made
   pub made : ℕ
   pub read : ℕ
@@ -39,7 +40,7 @@ history_of disk = record {
 
 -- what the disk tells
 abbrev pub view_of : MemoryDisk → View
-view_of disk = memory_view disk.medium.pick (logged disk.medium.log) disk.faults disk.medium.told
+view_of disk = memory_view disk.medium.pick (logged disk.medium.log) (record { faults = disk.faults; restarts = disk.restarts }) disk.medium.seen_is_image
 
 -- before the first call
 abbrev pub planned : DiskPlan → History
@@ -54,10 +55,6 @@ planned plan = record {
   faults = 0;
 }
 
--- one more, up to the greatest, where it stands
-abbrev pub one_more_than : ℕ → ℕ
-one_more_than count = max count (min (count + 1) (2 ^ 64 - 1))
-
 -- the fuse is met by so many calls
 abbrev pub IsMet : Option ℕ → ℕ → Type 0
 IsMet fuse count = IsSomeAnd fuse (λ first. first ≤ count)
@@ -70,13 +67,13 @@ NextFails history = Contains history.fail (one_more_than history.made) ⊎ IsMet
 abbrev pub NextReadFails : History → Type 0
 NextReadFails history = Contains history.fail_reads (one_more_than history.read)
 
--- A call fails exactly by this cause. For want of memory it may be refused besides.
+-- A call fails exactly for this cause. It may also be refused because the disk is out of memory.
 abbrev pub FailsBy : {T : Type 0} → Type 0 → Result T DiskRefusal → Type 0
 FailsBy cause (Ok value) = ¬ cause
 FailsBy cause (Err Failed) = cause
 FailsBy cause (Err NoMemory) = Unit {0}
 
--- A reading call fails exactly by this cause, and is never refused for want of memory.
+-- A reading call fails exactly for this cause, and is never refused for any other.
 abbrev pub ReadFailsBy : {T : Type 0} → Type 0 → Result T DiskRefusal → Type 0
 ReadFailsBy cause (Ok value) = ¬ cause
 ReadFailsBy cause (Err Failed) = cause
@@ -90,18 +87,18 @@ after_read history result = record history {
 }
 
 -- after a changing call, which adds these to the history
-abbrev pub after_made : History → List Change → ℕ → History
+abbrev pub after_made : History → List DiskCall → ℕ → History
 after_made history added faults = record history {
   changes = history.changes ++ added;
   made = one_more_than history.made;
   faults = faults;
 }
 
--- What a changing call adds if it answers Ok, and if it fails. For want of memory it leaves all as it was, and isn't counted.
-abbrev pub Adds : List Change → List Change → Result (Unit {0}) DiskRefusal → History → History → Type 0
-Adds done failed (Ok value) old new = new ≡ after_made old done old.faults
-Adds done failed (Err Failed) old new = new ≡ after_made old failed (one_more_than old.faults)
-Adds done failed (Err NoMemory) old new = new ≡ old
+-- What a changing call adds if it answers Ok, and if it fails. One that is out of memory leaves all as it was, and isn't counted.
+abbrev pub AddsCalls : List DiskCall → List DiskCall → Result (Unit {0}) DiskRefusal → History → History → Type 0
+AddsCalls done failed (Ok value) old new = new ≡ after_made old done old.faults
+AddsCalls done failed (Err Failed) old new = new ≡ after_made old failed (one_more_than old.faults)
+AddsCalls done failed (Err NoMemory) old new = new ≡ old
 
 -- A restart goes on with the same counts and plan. It removes a fuse that was met.
 pub record IsRestarted (old new : History) : Type 0 where

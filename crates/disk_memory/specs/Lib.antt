@@ -1,6 +1,6 @@
-pub mod Change
+pub mod DiskCall
 pub mod Replay
-pub mod Told
+pub mod MemoryView
 pub mod Logged
 pub mod Mirrored
 pub mod Restarts

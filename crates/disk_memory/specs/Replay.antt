@@ -1,33 +1,27 @@
--- What a history of changing calls says of a file.
-use Rattle.std.specs.Prelude.{◌≡◌, ◌⊎◌, ℕ, ◌+◌, ◌-◌, ◌/◌, ◌<◌, ◌≤◌, max, min, List, [], ◌∷◌, ◌++◌, length, take, drop, replicate, if◌then◌else◌, ◌==◌, slice_index}
-use Rattle.disk_memory.specs.Change.{Change, Wrote, Trimmed, Synced, Restarted}
+-- What the changing calls of a disk make of one file.
+use Rattle.std.specs.Prelude.{ℕ, ◌+◌, ◌-◌, ◌/◌, max, min, List, [], ◌∷◌, ◌++◌, length, take, drop, replicate, if◌then◌else◌, ◌==◌}
+use Rattle.disk_trait.specs.CrashImage.{Range, IsImage}
+use Rattle.disk_memory.specs.DiskCall.{DiskCall, WriteCall, CutCall, SyncCall, RestartCall}
 
--- a file between two syncs
-pub record Held : Type 0 where
+-- a file since its last sync that succeeded
+pub record FileState : Type 0 where
   -- what a read gives
   pub seen : List ℕ
   -- what a restart takes
   pub left : List ℕ
-  -- what the last sync that succeeded made sure of
+  -- what that sync made durable
   pub synced : List ℕ
-  -- the least and the greatest length since
+  -- the least and the greatest length that a read saw since then
   pub least : ℕ
   pub greatest : ℕ
-  -- the places and lengths of the writes since
-  pub ranges : List (ℕ × ℕ)
+  -- where the writes since then wrote
+  pub ranges : List Range
 
--- a place outside each range
-abbrev pub IsOutside : ℕ → List (ℕ × ℕ) → Type 0
-IsOutside i [] = Unit {0}
-IsOutside i (range ∷ ranges) = ((i < range.0) ⊎ (range.0 + range.1 ≤ i)) × IsOutside i ranges
+-- what a stop may leave of the file
+abbrev pub MayBeLeft : FileState → List ℕ → Type 0
+MayBeLeft state bytes = IsImage state.synced state.least state.greatest state.ranges bytes
 
--- what a stop may leave of a file
-pub record IsImage (held : Held) (bytes : List ℕ) : Type 0 where
-  pub no_shorter : held.least ≤ length bytes
-  pub no_longer : length bytes ≤ held.greatest
-  pub stays : (i : ℕ) → i < held.least → IsOutside i held.ranges → slice_index bytes i ≡ slice_index held.synced i
-
--- bytes laid over a list, behind zeros where it doesn't reach so far
+-- bytes laid over a list, after zeros where it doesn't reach so far
 abbrev pub laid : List ℕ → ℕ → List ℕ → List ℕ
 laid bytes at more = take at bytes ++ replicate (at - length bytes) 0 ++ more ++ drop (at + length more) bytes
 
@@ -41,44 +35,44 @@ abbrev pub picked_bytes : ℕ → List ℕ → List ℕ
 picked_bytes pick bytes = if pick == 1 then bytes else if pick == 2 then replicate (length bytes) 255 else take (length bytes / 2) bytes
 
 -- nothing is pending
-abbrev pub clean : List ℕ → Held
+abbrev pub clean : List ℕ → FileState
 clean bytes = record { seen = bytes; left = bytes; synced = bytes; least = length bytes; greatest = length bytes; ranges = [] }
 
-abbrev pub after_write : ℕ → ℕ → List ℕ → Held → Held
-after_write pick at bytes held = record {
-  seen = laid held.seen at bytes;
-  left = if pick == 0 then held.left else laid_if_any held.left at (picked_bytes pick bytes);
-  synced = held.synced;
-  least = min held.least (length (laid held.seen at bytes));
-  greatest = max held.greatest (length (laid held.seen at bytes));
-  ranges = (at, length bytes) ∷ held.ranges;
+abbrev pub after_write : ℕ → ℕ → List ℕ → FileState → FileState
+after_write pick at bytes state = record {
+  seen = laid state.seen at bytes;
+  left = if pick == 0 then state.left else laid_if_any state.left at (picked_bytes pick bytes);
+  synced = state.synced;
+  least = min state.least (length (laid state.seen at bytes));
+  greatest = max state.greatest (length (laid state.seen at bytes));
+  ranges = record { at = at; count = length bytes } ∷ state.ranges;
 }
 
-abbrev pub after_cut : ℕ → ℕ → Held → Held
-after_cut pick to held = record {
-  seen = take to held.seen;
-  left = if pick == 0 then held.left else take to held.left;
-  synced = held.synced;
-  least = min held.least (length (take to held.seen));
-  greatest = max held.greatest (length (take to held.seen));
-  ranges = held.ranges;
+abbrev pub after_cut : ℕ → ℕ → FileState → FileState
+after_cut pick to state = record {
+  seen = take to state.seen;
+  left = if pick == 0 then state.left else take to state.left;
+  synced = state.synced;
+  least = min state.least (length (take to state.seen));
+  greatest = max state.greatest (length (take to state.seen));
+  ranges = state.ranges;
 }
 
-abbrev pub after_change : ℕ → ℕ → Held → Change → Held
-after_change pick f held (Wrote file at bytes) = if file == f then after_write pick at bytes held else held
-after_change pick f held (Trimmed file to) = if file == f then after_cut pick to held else held
-after_change pick f held (Synced file) = if file == f then clean held.seen else held
-after_change pick f held Restarted = clean held.left
+abbrev pub after_change : ℕ → ℕ → FileState → DiskCall → FileState
+after_change pick f state (WriteCall file at bytes) = if file == f then after_write pick at bytes state else state
+after_change pick f state (CutCall file to) = if file == f then after_cut pick to state else state
+after_change pick f state (SyncCall file) = if file == f then clean state.seen else state
+after_change pick f state RestartCall = clean state.left
 
-abbrev pub replay : ℕ → ℕ → Held → List Change → Held
-replay pick f held [] = held
-replay pick f held (change ∷ changes) = replay pick f (after_change pick f held change) changes
+abbrev pub replay : ℕ → ℕ → FileState → List DiskCall → FileState
+replay pick f state [] = state
+replay pick f state (change ∷ changes) = replay pick f (after_change pick f state change) changes
 
 -- a file after these calls
-abbrev pub held_by : ℕ → List Change → ℕ → Held
-held_by pick changes f = replay pick f (clean []) changes
+abbrev pub file_after : ℕ → List DiskCall → ℕ → FileState
+file_after pick changes f = replay pick f (clean []) changes
 
 -- what a read gives, and what a restart takes, are images
-pub record IsSound (held : Held) : Type 0 where
-  pub seen : IsImage held held.seen
-  pub left : IsImage held held.left
+pub record IsSound (state : FileState) : Type 0 where
+  pub seen : MayBeLeft state state.seen
+  pub left : MayBeLeft state state.left

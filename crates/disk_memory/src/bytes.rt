@@ -50,7 +50,7 @@ pub fn lay(bytes: &mut Vec<u8>, at: usize, more: &[u8])
     overwrite(bytes, at, more);
 }
 
-// The same, where no byte leaves all as it is.
+// The same, but no bytes change nothing.
 fn lay_any(bytes: &mut Vec<u8>, at: usize, more: &[u8])
     requires fits { at + length more.now < 2 ^ 63 }
     requires room { at + length more.now ≤ vec_capacity bytes.old }
@@ -108,7 +108,7 @@ pub fn cut_picked(bytes: &mut Vec<u8>, pick: u8, to: usize)
     }
 }
 
-fn copy_stretch(bytes: &mut [u8], like: &[u8], from: usize, end: usize)
+fn copy_range(bytes: &mut [u8], like: &[u8], from: usize, end: usize)
     requires same_length { length bytes.old ≡ length like.now }
     requires within { end ≤ length like.now }
     ensures { Agrees from end bytes.old like.now → bytes.new ≡ like.now }
@@ -118,12 +118,12 @@ fn copy_stretch(bytes: &mut [u8], like: &[u8], from: usize, end: usize)
     }
 }
 
-// Makes bytes like others that agree with them outside a stretch.
+// Makes bytes like others that agree with them outside a range.
 pub fn align(bytes: &mut Vec<u8>, like: &[u8], from: usize, to: usize)
     requires { length like.now ≤ vec_capacity bytes.old }
     ensures { Agrees from to bytes.old.items like.now → bytes.new.items ≡ like.now }
 {
     bytes.truncate(like.len());
     lengthen(bytes, like.len());
-    copy_stretch(bytes, like, from, to.min(like.len()));
+    copy_range(bytes, like, from, to.min(like.len()));
 }

@@ -1,16 +1,19 @@
 // The disk itself: what it holds, its plan and its counts.
 ghost use Rattle.std.specs.Prelude.{◌≡◌, ◌≢◌, ◌⊎◌, ℕ, ◌+◌, ◌-◌, ◌<◌, ◌≤◌, ◌^◌, ◌↔◌, IfOk, OnOk, OnErr, IsErrOf, IsTrue, min, length, take, drop, [], ◌∷◌, ◌++◌, Ok, Err, if◌then◌else◌, nat_lt};
 ghost use Rattle.std.specs.List.{Contains};
+ghost use Rattle.fault_count.specs.OneMore.{one_more_than};
+ghost use Rattle.fault_count.specs.Rose.{Rose};
 ghost use Rattle.disk_trait.specs.declared.DiskRefusal.TheVariants.{Failed, NoMemory};
 ghost use Rattle.disk_trait.specs.View.{Image, Tells};
-ghost use Rattle.disk_trait.specs.Calls.{written, Torn, Shorn, Moved, Follows, Passes, Fewer, Same, Cause, KeepsOthers};
-ghost use Rattle.disk_memory.specs.Change.{Wrote, Trimmed, Synced};
-ghost use Rattle.disk_memory.specs.Told.{taken_by};
-ghost use Rattle.disk_memory.specs.History.{history_of, view_of, planned, one_more_than, IsMet, NextFails, NextReadFails, FailsBy, ReadFailsBy, after_read, Adds, IsRestarted};
+ghost use Rattle.disk_trait.specs.Calls.{written, Torn, Shorn, Moved, Follows, TimePasses, Fewer, Same, Cause, KeepsOthers};
+ghost use Rattle.disk_memory.specs.DiskCall.{WriteCall, CutCall, SyncCall};
+ghost use Rattle.disk_memory.specs.MemoryView.{taken_by};
+ghost use Rattle.disk_memory.specs.History.{history_of, view_of, planned, IsMet, NextFails, NextReadFails, FailsBy, ReadFailsBy, after_read, AddsCalls, IsRestarted};
 
 use crate::medium::Medium;
 use crate::plan::DiskPlan;
 use disk_trait::{Disk, DiskRefusal};
+use fault_count::one_more;
 use std::alloc::{AllocError, Global};
 
 // No file reaches so many bytes.
@@ -26,12 +29,7 @@ pub struct MemoryDisk {
     made: u64,
     read: u64,
     faults: u64,
-}
-
-fn one_more(count: u64) -> u64
-    ensures { result ≡ one_more_than count }
-{
-    if count < u64::MAX { count + 1 } else { count }
+    restarts: u64,
 }
 
 fn contains(numbers: &[u64], number: u64) -> bool
@@ -79,7 +77,7 @@ fn answered(made: &mut u64, faults: &mut u64, fails: bool) -> Result<(), DiskRef
 }
 
 impl MemoryDisk {
-    /// Makes a disk of empty files, whose calls go by a plan.
+    /// AddsCalls a disk of empty files, whose calls go by a plan.
     ///
     /// Takes the memory for eleven empty files. A file takes memory with its first write.
     pub fn new(alloc: Global, plan: DiskPlan) -> Result<Self, AllocError>
@@ -95,6 +93,7 @@ impl MemoryDisk {
             made: 0,
             read: 0,
             faults: 0,
+            restarts: 0,
         })
     }
 
@@ -107,17 +106,17 @@ impl MemoryDisk {
     }
 }
 
-// Copies from a place on, at most the slice's length.
+// Copies from an offset on, at most the slice's length.
 fn copied(seen: &[u8], at: u64, into: &mut [u8]) -> usize
     ensures count { result ≡ min (length into.old) (length seen.now - at) }
     ensures bytes { take result into.new ≡ take result (drop at seen.now) }
 {
-    let place = at as usize;
-    if place >= seen.len() {
+    let offset = at as usize;
+    if offset >= seen.len() {
         return 0;
     }
-    let count = into.len().min(seen.len() - place);
-    into[..count].copy_from_slice(&seen[place..place + count]);
+    let count = into.len().min(seen.len() - offset);
+    into[..count].copy_from_slice(&seen[offset..offset + count]);
     count
 }
 
@@ -129,7 +128,7 @@ impl Disk for MemoryDisk {
         ensures told { IfOk result (λ n. Tells (view_of self.old) → n ≡ length ((view_of self.old).seen file)) }
         ensures below { IfOk result (λ n. n < 2 ^ 63) }
         ensures same { Same (view_of self.old) (view_of self.new) }
-        ensures time { Passes (view_of self.old) (view_of self.new) }
+        ensures time { TimePasses (view_of self.old) (view_of self.new) }
         ensures cause { Cause (view_of self.old) (view_of self.new) result }
         ensures fails { ReadFailsBy (NextReadFails (history_of self.old)) result }
         ensures history { history_of self.new ≡ after_read (history_of self.old) result }
@@ -148,7 +147,7 @@ impl Disk for MemoryDisk {
         ensures told { IfOk result (λ n. Tells (view_of self.old) → n ≡ min (length into.old) (length ((view_of self.old).seen file) - at)) }
         ensures bytes { IfOk result (λ n. Tells (view_of self.old) → take n into.new ≡ take n (drop at ((view_of self.old).seen file))) }
         ensures same { Same (view_of self.old) (view_of self.new) }
-        ensures time { Passes (view_of self.old) (view_of self.new) }
+        ensures time { TimePasses (view_of self.old) (view_of self.new) }
         ensures cause { Cause (view_of self.old) (view_of self.new) result }
         ensures fails { ReadFailsBy (NextReadFails (history_of self.old)) result }
         ensures history { history_of self.new ≡ after_read (history_of self.old) result }
@@ -163,18 +162,18 @@ impl Disk for MemoryDisk {
 
     fn write_at(&mut self, file: u8, at: u64, bytes: &[u8]) -> Result<(), DiskRefusal>
         requires file { file ≤ 10 }
-        requires place { Tells (view_of self.old) → at ≤ length ((view_of self.old).seen file) }
+        requires offset { Tells (view_of self.old) → at ≤ length ((view_of self.old).seen file) }
         ensures written { OnOk result (Tells (view_of self.old) → (view_of self.new).seen file ≡ written ((view_of self.old).seen file) at bytes.now) }
         ensures below { OnOk result (at + length bytes.now < 2 ^ 63) }
         ensures others { (f : ℕ) → f ≢ file → (view_of self.new).seen f ≡ (view_of self.old).seen f }
         ensures images { Follows (Moved file (Torn at (length bytes.now))) (view_of self.old) (view_of self.new) }
         ensures others_stay { KeepsOthers file (view_of self.old) (view_of self.new) }
         ensures tells { Tells (view_of self.old) → Tells (view_of self.new) }
-        ensures time { Passes (view_of self.old) (view_of self.new) }
+        ensures time { TimePasses (view_of self.old) (view_of self.new) }
         ensures as_before { IsErrOf result NoMemory → Same (view_of self.old) (view_of self.new) }
         ensures cause { Cause (view_of self.old) (view_of self.new) result }
         ensures fails { FailsBy (NextFails (history_of self.old) ⊎ (2 ^ 63 ≤ at + length bytes.now)) result }
-        ensures history { Adds (Wrote file at bytes.now ∷ []) (if nat_lt (at + length bytes.now) (2 ^ 63) then Wrote file at bytes.now ∷ [] else []) result (history_of self.old) (history_of self.new) }
+        ensures history { AddsCalls (WriteCall file at bytes.now ∷ []) (if nat_lt (at + length bytes.now) (2 ^ 63) then WriteCall file at bytes.now ∷ [] else []) result (history_of self.old) (history_of self.new) }
     {
         if is_too_long(at, bytes.len()) {
             return answered(&mut self.made, &mut self.faults, true);
@@ -191,11 +190,11 @@ impl Disk for MemoryDisk {
         ensures images { Follows (Moved file (Shorn to)) (view_of self.old) (view_of self.new) }
         ensures others_stay { KeepsOthers file (view_of self.old) (view_of self.new) }
         ensures tells { Tells (view_of self.old) → Tells (view_of self.new) }
-        ensures time { Passes (view_of self.old) (view_of self.new) }
+        ensures time { TimePasses (view_of self.old) (view_of self.new) }
         ensures as_before { IsErrOf result NoMemory → Same (view_of self.old) (view_of self.new) }
         ensures cause { Cause (view_of self.old) (view_of self.new) result }
         ensures fails { FailsBy (NextFails (history_of self.old)) result }
-        ensures history { Adds (Trimmed file to ∷ []) (Trimmed file to ∷ []) result (history_of self.old) (history_of self.new) }
+        ensures history { AddsCalls (CutCall file to ∷ []) (CutCall file to ∷ []) result (history_of self.old) (history_of self.new) }
     {
         let fails = self.next_fails();
         self.medium.cut(file, to)?;
@@ -210,10 +209,10 @@ impl Disk for MemoryDisk {
         ensures others_stay { KeepsOthers file (view_of self.old) (view_of self.new) }
         ensures refused { OnErr result (Same (view_of self.old) (view_of self.new)) }
         ensures tells { Tells (view_of self.old) → Tells (view_of self.new) }
-        ensures time { Passes (view_of self.old) (view_of self.new) }
+        ensures time { TimePasses (view_of self.old) (view_of self.new) }
         ensures cause { Cause (view_of self.old) (view_of self.new) result }
         ensures fails { FailsBy (NextFails (history_of self.old)) result }
-        ensures history { Adds (Synced file ∷ []) [] result (history_of self.old) (history_of self.new) }
+        ensures history { AddsCalls (SyncCall file ∷ []) [] result (history_of self.old) (history_of self.new) }
     {
         if self.next_fails() {
             return answered(&mut self.made, &mut self.faults, true);
@@ -226,12 +225,15 @@ impl Disk for MemoryDisk {
         ensures images { Fewer (view_of self.old) (view_of self.new) }
         ensures durable { (m : Image) → (view_of self.new).images m → (f : ℕ) → m f ≡ (view_of self.new).seen f }
         ensures tells { Tells (view_of self.old) → Tells (view_of self.new) }
-        ensures time { Passes (view_of self.old) (view_of self.new) }
+        ensures time { TimePasses (view_of self.old) (view_of self.new) }
         ensures faults { (view_of self.old).faults ≤ (view_of self.new).faults }
+        ensures counted { Rose (view_of self.old).restarts (view_of self.new).restarts }
+        ensures no_less { (view_of self.old).restarts ≤ (view_of self.new).restarts }
         ensures spares { (view_of self.old).spares → (view_of self.new).spares }
         ensures taken { (f : ℕ) → (view_of self.new).seen f ≡ taken_by (history_of self.old).pick (history_of self.old).changes f }
         ensures history { IsRestarted (history_of self.old) (history_of self.new) }
     {
+        self.restarts = one_more(self.restarts);
         self.fuse = unmet(self.fuse, self.made);
         self.medium.restart();
     }

@@ -5,7 +5,7 @@ ghost use Rattle.std.specs.Vec.{vec_capacity};
 use crate::bytes::{align, cut_picked, lay, lay_picked, make_room};
 use std::alloc::{AllocError, Global};
 
-// Outside the stretch from `from` to before `to` both are the same bytes, so a sync copies that stretch alone.
+// Outside the range from `from` to before `to` both are the same bytes, so a sync copies that range alone.
 #[derive(Drop)]
 pub struct FileBytes {
     pub seen: Vec<u8>,
@@ -17,7 +17,7 @@ pub struct FileBytes {
 }
 
 impl FileBytes {
-    ghost use Rattle.disk_memory.specs.Replay.{Held, clean, after_write, after_cut};
+    ghost use Rattle.disk_memory.specs.Replay.{FileState, clean, after_write, after_cut};
     ghost use Rattle.disk_memory.specs.Mirrored.{Agrees, Mirrors, visible};
 
     pub fn empty(alloc: Global) -> Self
@@ -54,7 +54,7 @@ impl FileBytes {
 
     // Brings `seen` up to date after a restart.
     fn refresh(&mut self) -> Result<(), AllocError>
-        ensures mirrors { (held : Held) → Mirrors self.old held → Mirrors self.new held }
+        ensures mirrors { (state : FileState) → Mirrors self.old state → Mirrors self.new state }
         ensures ok { OnOk result (self.new.taken ≡ false) }
     {
         if self.taken {
@@ -65,7 +65,7 @@ impl FileBytes {
         Ok(())
     }
 
-    // The bytes of this stretch are pending.
+    // The bytes of this range are pending.
     fn widen(&mut self, from: usize, to: usize)
         ensures seen { self.new.seen ≡ self.old.seen }
         ensures left { self.new.left ≡ self.old.left }
@@ -79,7 +79,7 @@ impl FileBytes {
 
     // Takes the room for a write that ends there.
     fn make_room(&mut self, end: usize) -> Result<(), AllocError>
-        ensures mirrors { (held : Held) → Mirrors self.old held → Mirrors self.new held }
+        ensures mirrors { (state : FileState) → Mirrors self.old state → Mirrors self.new state }
         ensures taken { self.new.taken ≡ self.old.taken }
         ensures seen { OnOk result (end ≤ vec_capacity self.new.seen) }
         ensures left { OnOk result (end ≤ vec_capacity self.new.left) }
@@ -94,7 +94,7 @@ impl FileBytes {
         requires seen { at + length bytes.now ≤ vec_capacity self.old.seen }
         requires left { at + length bytes.now ≤ vec_capacity self.old.left }
         requires fresh { self.old.taken ≡ false }
-        ensures { (held : Held) → at ≤ length held.seen → Mirrors self.old held → Mirrors self.new (after_write pick at bytes.now held) }
+        ensures { (state : FileState) → at ≤ length state.seen → Mirrors self.old state → Mirrors self.new (after_write pick at bytes.now state) }
     {
         lay(&mut self.seen, at, bytes);
         lay_picked(&mut self.left, pick, at, bytes);
@@ -103,8 +103,8 @@ impl FileBytes {
 
     pub fn write(&mut self, pick: u8, at: usize, bytes: &[u8]) -> Result<(), AllocError>
         requires { at + length bytes.now < 2 ^ 63 }
-        ensures ok { OnOk result ((held : Held) → at ≤ length held.seen → Mirrors self.old held → Mirrors self.new (after_write pick at bytes.now held)) }
-        ensures err { OnErr result ((held : Held) → Mirrors self.old held → Mirrors self.new held) }
+        ensures ok { OnOk result ((state : FileState) → at ≤ length state.seen → Mirrors self.old state → Mirrors self.new (after_write pick at bytes.now state)) }
+        ensures err { OnErr result ((state : FileState) → Mirrors self.old state → Mirrors self.new state) }
     {
         self.refresh()?;
         self.make_room(at + bytes.len())?;
@@ -128,7 +128,7 @@ impl FileBytes {
 
     fn shorten(&mut self, pick: u8, to: usize)
         requires { self.old.taken ≡ false }
-        ensures { (held : Held) → Mirrors self.old held → Mirrors self.new (after_cut pick to held) }
+        ensures { (state : FileState) → Mirrors self.old state → Mirrors self.new (after_cut pick to state) }
     {
         self.widen_by_cut(to);
         self.seen.truncate(to);
@@ -136,8 +136,8 @@ impl FileBytes {
     }
 
     pub fn cut(&mut self, pick: u8, to: usize) -> Result<(), AllocError>
-        ensures ok { OnOk result ((held : Held) → Mirrors self.old held → Mirrors self.new (after_cut pick to held)) }
-        ensures err { OnErr result ((held : Held) → Mirrors self.old held → Mirrors self.new held) }
+        ensures ok { OnOk result ((state : FileState) → Mirrors self.old state → Mirrors self.new (after_cut pick to state)) }
+        ensures err { OnErr result ((state : FileState) → Mirrors self.old state → Mirrors self.new state) }
     {
         self.refresh()?;
         self.shorten(pick, to);
@@ -146,8 +146,8 @@ impl FileBytes {
 
     // A restart takes from now on what a read gives.
     pub fn sync(&mut self) -> Result<(), AllocError>
-        ensures ok { OnOk result ((held : Held) → Mirrors self.old held → Mirrors self.new (clean held.seen)) }
-        ensures err { OnErr result ((held : Held) → Mirrors self.old held → Mirrors self.new held) }
+        ensures ok { OnOk result ((state : FileState) → Mirrors self.old state → Mirrors self.new (clean state.seen)) }
+        ensures err { OnErr result ((state : FileState) → Mirrors self.old state → Mirrors self.new state) }
     {
         if !self.taken {
             make_room(&mut self.left, self.seen.len())?;
@@ -159,7 +159,7 @@ impl FileBytes {
 
     // A read gives from now on what a restart takes. The bytes are brought up to date at the next change.
     pub fn restart(&mut self)
-        ensures { (held : Held) → Mirrors self.old held → Mirrors self.new (clean held.left) }
+        ensures { (state : FileState) → Mirrors self.old state → Mirrors self.new (clean state.left) }
     {
         self.taken = true;
     }

@@ -12,7 +12,7 @@ pub enum Call {
     Restart,
 }
 
-// The calls, and whether a restart came behind them. So a restart takes no memory.
+// The calls, and whether a restart came after them. So a restart takes no memory.
 #[derive(Drop)]
 pub struct Log {
     pub calls: Vec<Call>,
@@ -20,8 +20,8 @@ pub struct Log {
 }
 
 impl Log {
-    ghost use Rattle.disk_memory.specs.Logged.{change_of, logged};
-    ghost use Rattle.disk_memory.specs.Change.{Restarted};
+    ghost use Rattle.disk_memory.specs.Logged.{call_of, logged};
+    ghost use Rattle.disk_memory.specs.DiskCall.{RestartCall};
 
     pub fn empty(alloc: Global) -> Self
         ensures { logged result ≡ [] }
@@ -44,7 +44,7 @@ impl Log {
     // A restart that came before the call is written down with it.
     pub fn add(&mut self, call: Call)
         requires { vec_len self.old.calls + 2 ≤ vec_capacity self.old.calls }
-        ensures { logged self.new ≡ logged self.old ++ change_of call ∷ [] }
+        ensures { logged self.new ≡ logged self.old ++ call_of call ∷ [] }
     {
         if self.restarted {
             let _ = self.calls.push(Call::Restart);

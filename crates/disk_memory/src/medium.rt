@@ -1,8 +1,8 @@
 // What a disk holds: its history, and its files as plain bytes.
 ghost use Rattle.std.specs.Prelude.{◌≡◌, ◌≢◌, ℕ, ◌+◌, ◌<◌, ◌≤◌, ◌^◌, ◌++◌, ◌∷◌, List, [], length, IfOk, OnOk, OnErr, slice_index_or};
-ghost use Rattle.disk_memory.specs.Change.{Change, Wrote, Trimmed, Synced};
-ghost use Rattle.disk_memory.specs.Replay.{Held, clean, after_write, after_cut};
-ghost use Rattle.disk_memory.specs.Told.{AfterChanges, seen_by};
+ghost use Rattle.disk_memory.specs.DiskCall.{DiskCall, WriteCall, CutCall, SyncCall};
+ghost use Rattle.disk_memory.specs.Replay.{FileState, clean, after_write, after_cut};
+ghost use Rattle.disk_memory.specs.MemoryView.{AfterChanges, seen_by};
 ghost use Rattle.disk_memory.specs.Logged.{logged};
 ghost use Rattle.disk_memory.specs.Mirrored.{AllMirror, Mirrors};
 ghost use Rattle.disk_memory.specs.Restarts.{Restarts};
@@ -21,7 +21,7 @@ pub struct Medium {
     files: Vec<FileBytes>,
     ghost eleven: { length files.items ≡ 11 },
     ghost mirrors: { AllMirror pick (logged log) files.items },
-    ghost told: { AfterChanges pick (logged log) (seen_by pick (logged log)) },
+    ghost seen_is_image: { AfterChanges pick (logged log) (seen_by pick (logged log)) },
 }
 
 fn empty_files(alloc: Global) -> Result<Vec<FileBytes>, AllocError>
@@ -45,36 +45,36 @@ fn write_one(
     requires file { file < length files.old.items }
     requires fits { at + length bytes.now < 2 ^ 63 }
     ensures count { length files.new.items ≡ length files.old.items }
-    ensures ok { OnOk result ((old new : List Change) → new ≡ old ++ Wrote file at bytes.now ∷ [] → at ≤ length (seen_by pick old file) → AllMirror pick old files.old.items → AllMirror pick new files.new.items) }
-    ensures err { OnErr result ((old : List Change) → AllMirror pick old files.old.items → AllMirror pick old files.new.items) }
+    ensures ok { OnOk result ((old new : List DiskCall) → new ≡ old ++ WriteCall file at bytes.now ∷ [] → at ≤ length (seen_by pick old file) → AllMirror pick old files.old.items → AllMirror pick new files.new.items) }
+    ensures err { OnErr result ((old : List DiskCall) → AllMirror pick old files.old.items → AllMirror pick old files.new.items) }
 {
-    let held = &mut files[file as usize];
-    held.write(pick, at as usize, bytes)
+    let chosen = &mut files[file as usize];
+    chosen.write(pick, at as usize, bytes)
 }
 
 fn cut_one(files: &mut Vec<FileBytes>, pick: u8, file: u8, to: u64) -> Result<(), AllocError>
     requires { file < length files.old.items }
     ensures count { length files.new.items ≡ length files.old.items }
-    ensures ok { OnOk result ((old new : List Change) → new ≡ old ++ Trimmed file to ∷ [] → AllMirror pick old files.old.items → AllMirror pick new files.new.items) }
-    ensures err { OnErr result ((old : List Change) → AllMirror pick old files.old.items → AllMirror pick old files.new.items) }
+    ensures ok { OnOk result ((old new : List DiskCall) → new ≡ old ++ CutCall file to ∷ [] → AllMirror pick old files.old.items → AllMirror pick new files.new.items) }
+    ensures err { OnErr result ((old : List DiskCall) → AllMirror pick old files.old.items → AllMirror pick old files.new.items) }
 {
-    let held = &mut files[file as usize];
-    held.cut(pick, to as usize)
+    let chosen = &mut files[file as usize];
+    chosen.cut(pick, to as usize)
 }
 
 fn sync_one(files: &mut Vec<FileBytes>, file: u8) -> Result<(), AllocError>
     requires { file < length files.old.items }
     ensures count { length files.new.items ≡ length files.old.items }
-    ensures ok { OnOk result ((pick : ℕ) (old new : List Change) → new ≡ old ++ Synced file ∷ [] → AllMirror pick old files.old.items → AllMirror pick new files.new.items) }
-    ensures err { OnErr result ((pick : ℕ) (old : List Change) → AllMirror pick old files.old.items → AllMirror pick old files.new.items) }
+    ensures ok { OnOk result ((pick : ℕ) (old new : List DiskCall) → new ≡ old ++ SyncCall file ∷ [] → AllMirror pick old files.old.items → AllMirror pick new files.new.items) }
+    ensures err { OnErr result ((pick : ℕ) (old : List DiskCall) → AllMirror pick old files.old.items → AllMirror pick old files.new.items) }
 {
-    let held = &mut files[file as usize];
-    held.sync()
+    let chosen = &mut files[file as usize];
+    chosen.sync()
 }
 
 fn restart_all(files: &mut Vec<FileBytes>)
     ensures count { length files.new.items ≡ length files.old.items }
-    ensures each { (f : ℕ) (d : FileBytes) (held : Held) → f < length files.old.items → Mirrors (slice_index_or files.old.items f d) held → Mirrors (slice_index_or files.new.items f d) (clean held.left) }
+    ensures each { (f : ℕ) (d : FileBytes) (state : FileState) → f < length files.old.items → Mirrors (slice_index_or files.old.items f d) state → Mirrors (slice_index_or files.new.items f d) (clean state.left) }
 {
     for i in 0..files.len() {
         let file = &mut files[i];
@@ -106,10 +106,10 @@ impl Medium {
 
     pub fn write(&mut self, file: u8, at: u64, bytes: &[u8]) -> Result<(), AllocError>
         requires file { file ≤ 10 }
-        requires place { at ≤ length (seen_by self.old.pick (logged self.old.log) file) }
+        requires offset { at ≤ length (seen_by self.old.pick (logged self.old.log) file) }
         requires fits { at + length bytes.now < 2 ^ 63 }
         ensures pick { self.new.pick ≡ self.old.pick }
-        ensures ok { OnOk result (logged self.new.log ≡ logged self.old.log ++ Wrote file at bytes.now ∷ []) }
+        ensures ok { OnOk result (logged self.new.log ≡ logged self.old.log ++ WriteCall file at bytes.now ∷ []) }
         ensures err { OnErr result (logged self.new.log ≡ logged self.old.log) }
     {
         let kept = bytes.to_vec(self.alloc)?;
@@ -126,7 +126,7 @@ impl Medium {
     pub fn cut(&mut self, file: u8, to: u64) -> Result<(), AllocError>
         requires { file ≤ 10 }
         ensures pick { self.new.pick ≡ self.old.pick }
-        ensures ok { OnOk result (logged self.new.log ≡ logged self.old.log ++ Trimmed file to ∷ []) }
+        ensures ok { OnOk result (logged self.new.log ≡ logged self.old.log ++ CutCall file to ∷ []) }
         ensures err { OnErr result (logged self.new.log ≡ logged self.old.log) }
     {
         self.log.make_room()?;
@@ -138,7 +138,7 @@ impl Medium {
     pub fn sync(&mut self, file: u8) -> Result<(), AllocError>
         requires { file ≤ 10 }
         ensures pick { self.new.pick ≡ self.old.pick }
-        ensures ok { OnOk result (logged self.new.log ≡ logged self.old.log ++ Synced file ∷ []) }
+        ensures ok { OnOk result (logged self.new.log ≡ logged self.old.log ++ SyncCall file ∷ []) }
         ensures err { OnErr result (logged self.new.log ≡ logged self.old.log) }
     {
         self.log.make_room()?;

@@ -3,7 +3,7 @@
 /// What goes wrong on a [`MemoryDisk`](crate::MemoryDisk), by the numbers of its calls.
 ///
 /// `write_at`, `cut` and `sync` are numbered from 1 over all files of the disk, `length` and `read` from 1 apart.
-/// A call that is refused for want of memory has no number.
+/// A call that is out of memory has no number.
 #[derive(Drop)]
 pub struct DiskPlan {
     /// The numbers of the changing calls that fail.

@@ -2,27 +2,27 @@
 ghost use Rattle.std.specs.Prelude.{◌≡◌, ◌≢◌, ℕ, ◌+◌, ◌-◌, ◌<◌, ◌≤◌, ◌^◌, length, take, drop, min, IfOk, OnOk, OnErr, IsErrOf};
 ghost use Rattle.disk_trait.specs.declared.DiskRefusal.TheVariants.{NoMemory};
 ghost use Rattle.disk_trait.specs.View.{Image, View, Tells};
-ghost use Rattle.disk_trait.specs.Calls.{written, Torn, Shorn, Moved, Follows, Passes, Fewer, Same, Cause, KeepsOthers};
+ghost use Rattle.disk_trait.specs.Calls.{written, Torn, Shorn, Moved, Follows, TimePasses, Fewer, Same, Cause, KeepsOthers, Rose};
 
 use crate::DiskRefusal;
 
 /// Eleven files of bytes, numbered 0 to 10, that a stop may cut short.
 pub trait Disk {
-    /// What the disk tells of its files, and its count of faults.
+    /// What the disk tells of its files, and its counts of faults and of restarts.
     ghost view: { Self → View };
 
     /// The length that reads see, in bytes.
     ///
-    /// It counts what is pending too. A refusal leaves the disk as it was, but for the count of faults.
+    /// It counts what is pending too. A refusal leaves every file as it was.
     fn length(&mut self, file: u8) -> Result<u64, DiskRefusal>
         requires { file ≤ 10 }
         ensures told { IfOk result (λ n. Tells (view self.old) → n ≡ length ((view self.old).seen file)) }
         ensures below { IfOk result (λ n. n < 2 ^ 63) }
         ensures same { Same (view self.old) (view self.new) }
-        ensures time { Passes (view self.old) (view self.new) }
+        ensures time { TimePasses (view self.old) (view self.new) }
         ensures cause { Cause (view self.old) (view self.new) result };
 
-    /// Reads so many bytes as lie from the place `at` on, at most the slice's length, and answers how many.
+    /// Reads the bytes from the offset `at` on, at most as many as the slice has, and answers how many.
     ///
     /// `at` counts from 0 and may lie past the end. What is pending is read too. The slice past the answer, and all of
     /// it after a refusal, may hold anything.
@@ -32,23 +32,23 @@ pub trait Disk {
         ensures told { IfOk result (λ n. Tells (view self.old) → n ≡ min (length into.old) (length ((view self.old).seen file) - at)) }
         ensures bytes { IfOk result (λ n. Tells (view self.old) → take n into.new ≡ take n (drop at ((view self.old).seen file))) }
         ensures same { Same (view self.old) (view self.new) }
-        ensures time { Passes (view self.old) (view self.new) }
+        ensures time { TimePasses (view self.old) (view self.new) }
         ensures cause { Cause (view self.old) (view self.new) result };
 
     /// Writes over what is there, and past the end.
     ///
-    /// The first byte goes to the place `at`, from 0, which is at most the length: a write leaves no gap. Until the
+    /// The first byte goes to the offset `at`, from 0, which is at most the length: a write leaves no gap. Until the
     /// file's next sync a stop may leave any bytes in the range. After `Failed` the range is pending all the same.
     fn write_at(&mut self, file: u8, at: u64, bytes: &[u8]) -> Result<(), DiskRefusal>
         requires file { file ≤ 10 }
-        requires place { Tells (view self.old) → at ≤ length ((view self.old).seen file) }
+        requires offset { Tells (view self.old) → at ≤ length ((view self.old).seen file) }
         ensures written { OnOk result (Tells (view self.old) → (view self.new).seen file ≡ written ((view self.old).seen file) at bytes.now) }
         ensures below { OnOk result (at + length bytes.now < 2 ^ 63) }
         ensures others { (f : ℕ) → f ≢ file → (view self.new).seen f ≡ (view self.old).seen f }
         ensures images { Follows (Moved file (Torn at (length bytes.now))) (view self.old) (view self.new) }
         ensures others_stay { KeepsOthers file (view self.old) (view self.new) }
         ensures tells { Tells (view self.old) → Tells (view self.new) }
-        ensures time { Passes (view self.old) (view self.new) }
+        ensures time { TimePasses (view self.old) (view self.new) }
         ensures as_before { IsErrOf result NoMemory → Same (view self.old) (view self.new) }
         ensures cause { Cause (view self.old) (view self.new) result };
 
@@ -63,7 +63,7 @@ pub trait Disk {
         ensures images { Follows (Moved file (Shorn to)) (view self.old) (view self.new) }
         ensures others_stay { KeepsOthers file (view self.old) (view self.new) }
         ensures tells { Tells (view self.old) → Tells (view self.new) }
-        ensures time { Passes (view self.old) (view self.new) }
+        ensures time { TimePasses (view self.old) (view self.new) }
         ensures as_before { IsErrOf result NoMemory → Same (view self.old) (view self.new) }
         ensures cause { Cause (view self.old) (view self.new) result };
 
@@ -78,17 +78,19 @@ pub trait Disk {
         ensures others_stay { KeepsOthers file (view self.old) (view self.new) }
         ensures refused { OnErr result (Same (view self.old) (view self.new)) }
         ensures tells { Tells (view self.old) → Tells (view self.new) }
-        ensures time { Passes (view self.old) (view self.new) }
+        ensures time { TimePasses (view self.old) (view self.new) }
         ensures cause { Cause (view self.old) (view self.new) result };
 
     /// Stops and starts again: the disk then holds one of its images, and nothing is pending.
     ///
-    /// A read shows what that image holds. Which one it is isn't said.
+    /// A read shows what that image holds. Which one it is isn't said. The count of restarts rises by this call alone.
     fn restart(&mut self)
         ensures images { Fewer (view self.old) (view self.new) }
         ensures durable { (m : Image) → (view self.new).images m → (f : ℕ) → m f ≡ (view self.new).seen f }
         ensures tells { Tells (view self.old) → Tells (view self.new) }
-        ensures time { Passes (view self.old) (view self.new) }
+        ensures time { TimePasses (view self.old) (view self.new) }
         ensures faults { (view self.old).faults ≤ (view self.new).faults }
+        ensures counted { Rose (view self.old).restarts (view self.new).restarts }
+        ensures no_less { (view self.old).restarts ≤ (view self.new).restarts }
         ensures spares { (view self.old).spares → (view self.new).spares };
 }

@@ -1,4 +1,4 @@
-// Want of memory, as a disk answers it.
+// Out of memory, as a disk answers it.
 ghost use Rattle.std.specs.Prelude.{◌≡◌};
 ghost use Rattle.disk_trait.specs.declared.DiskRefusal.TheVariants.{NoMemory};
 

@@ -8,7 +8,7 @@ use crate::{Disk, DiskRefusal};
 
 /// Writes and syncs: after Ok every image of the file has the bytes.
 ///
-/// The first byte goes to the place `at`, from 0, at most the length. At each moment of the call, and after a refusal, a
+/// The first byte goes to the offset `at`, from 0, at most the length. At each moment of the call, and after a refusal, a
 /// stop may leave any bytes in the range. Takes no memory but the disk's. Two device calls: write, sync.
 pub fn write_synced<D: Disk>(
     disk: &mut D,
@@ -17,7 +17,7 @@ pub fn write_synced<D: Disk>(
     bytes: &[u8],
 ) -> Result<(), DiskRefusal>
     requires file { file ≤ 10 }
-    requires place { Tells (D.view disk.old) → at ≤ length ((D.view disk.old).seen file) }
+    requires offset { Tells (D.view disk.old) → at ≤ length ((D.view disk.old).seen file) }
     ensures durable { OnOk result ((m : Image) → (D.view disk.new).images m → m file ≡ written ((D.view disk.old).seen file) at bytes.now) }
     ensures below { OnOk result (at + length bytes.now < 2 ^ 63) }
     ensures others { (f : ℕ) → f ≢ file → (D.view disk.new).seen f ≡ (D.view disk.old).seen f }

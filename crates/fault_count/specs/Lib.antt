@@ -1,1 +1,2 @@
 pub mod Rose
+pub mod OneMore

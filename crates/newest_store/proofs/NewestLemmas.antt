@@ -1,9 +1,9 @@
 -- Which of two files is the newest, and what the files stand for then.
-use Rattle.std.proofs.Common.{◌≡◌, ◌≢◌, ◌⊎◌, inl, inr, ⊎_elim, ℕ, ◌<◌, ◌≤◌, List, [], ◌∷◌, ◌++◌, All, take, drop, Option, None, Some, Ok, refl, sym, ◌∙◌, ap, subst, arith, length, length-append}
+use Rattle.std.proofs.Common.{◌≡◌, ◌≢◌, ◌⊎◌, inl, inr, ⊎_elim, ℕ, ◌<◌, ◌≤◌, List, [], ◌∷◌, ◌++◌, All, take, drop, Option, None, Some, refl, sym, ◌∙◌, ap, subst, arith, length, length-append}
 use Rattle.std.proofs.lemmas.Bool.{cases_eq}
 use Rattle.std.proofs.lemmas.List.{drop-drop}
 use Rattle.std.proofs.lemmas.List.Elements.{All-cons, All-nil, All-head}
-use Rattle.byte_fields.specs.Numbers.{big_endian}
+use Rattle.byte_fields.specs.Numbers.{big_endian, number_in}
 use Rattle.cache_key.specs.declared.request.Mutation.{Mutation}
 use Rattle.cache_model.specs.Change.{Change, changes_of}
 use Rattle.cache_model.specs.Contents.{SameContents, value_after, is_present_after}
@@ -11,46 +11,36 @@ use Rattle.disk_trait.specs.View.{Image}
 use Rattle.disk_trait.specs.Calls.{Moved}
 use Rattle.record_form.specs.declared.header.Header.{Header}
 use Rattle.record_form.specs.declared.fault.RecordFault.{RecordFault}
-use Rattle.record_form.specs.HeaderText.{IsHeader, header_text}
-use Rattle.record_form.specs.HeaderFault.{number_in, header_in, header_fault, unless}
-use Rattle.record_form.proofs.HeaderLemmas.{header_again}
+use Rattle.record_form.specs.HeaderFault.{header_fault}
+use Rattle.record_form.proofs.HeaderLemmas.{header_fault-header_text, header_in-header_text}
 use Rattle.seal_gate.specs.Seal.{IsSealed, ButFirst}
 use Rattle.store_ident.specs.declared.ident.StoreId.{StoreId}
 use Rattle.store_journal.specs.Text.{IsStoreOf}
 use Rattle.store_journal.specs.Created.{IsUnsealed}
-use Rattle.store_journal.specs.Fault.{placed, shifted, IsDamagedAt}
+use Rattle.store_journal.specs.Fault.{offset_if_fault, shifted, IsDamagedAt}
 use Rattle.store_journal.specs.Loading.{IsIdentified, IsUnidentifiedAt}
 use Rattle.store_journal.specs.Stands.{version_in, IsOlder}
-use Rattle.store_journal.proofs.TextOnce.{header_in_text}
 use Rattle.store_journal.proofs.FaultLemmas.{text_is_whole}
 use Rattle.store_journal.proofs.StandsLemmas.{within_head}
 use Rattle.newest_store.specs.Newest.{IsHeaded, HasStore, IsNewest, IsDamagedIn}
 
--- a header's bytes have no fault
-passed : (fault : Option RecordFault) (value wanted : Header) → unless fault value ≡ Ok wanted → fault ≡ None
-passed None value wanted is = refl
-passed (Some fault) value wanted is = absurd cc
-
-header_passes : (header : Header) → IsHeader header → header_fault (header_text header) ≡ None
-header_passes header limits = passed (header_fault (header_text header)) (header_in (header_text header)) header (header_again header (header_text header) limits refl)
-
 -- a file whose store is known has a header, or no seal
 pub identified_is_headed : (bytes : List ℕ) (found : Option StoreId) → IsIdentified bytes found → IsHeaded bytes
 identified_is_headed bytes None not = λ sealed. absurd (not sealed)
-identified_is_headed bytes (Some id) has = λ sealed. ap header_fault has.3 ∙ header_passes has.1 has.2
+identified_is_headed bytes (Some id) has = λ sealed. ap header_fault has.3 ∙ header_fault-header_text has.1 has.2
 
--- a sealed file with a header has a fault nowhere in it
-unplaced : (from place : ℕ) (fault : Option RecordFault) → fault ≡ None → shifted from (placed fault) ≡ Some place → ⊥
-unplaced from place fault none is = let no : shifted from (placed fault) ≡ None = ap (λ (f : Option RecordFault). shifted from (placed f)) none in absurd cc
+-- the header of a sealed file that has one has no fault
+no_offset_in : (from offset : ℕ) (fault : Option RecordFault) → fault ≡ None → shifted from (offset_if_fault fault) ≡ Some offset → ⊥
+no_offset_in from offset fault none is = let no : shifted from (offset_if_fault fault) ≡ None = ap (λ (f : Option RecordFault). shifted from (offset_if_fault f)) none in absurd cc
 
-pub headed_is_identified : (bytes : List ℕ) (place : ℕ) → IsHeaded bytes → IsUnidentifiedAt bytes place → ⊥
-headed_is_identified bytes place headed is = unplaced 1 place (header_fault (take 40 (drop 1 bytes))) (headed is.sealed) is.first
+pub headed_is_identified : (bytes : List ℕ) (offset : ℕ) → IsHeaded bytes → IsUnidentifiedAt bytes offset → ⊥
+headed_is_identified bytes offset headed is = no_offset_in 1 offset (header_fault (take 40 (drop 1 bytes))) (headed is.sealed) is.first
 
 -- the version of a store that is known is the one that its file shows
 pub version_of_identified : (bytes : List ℕ) (id : StoreId) → IsIdentified bytes (Some id) → version_in bytes ≡ id.version
 version_of_identified bytes id has =
     ap big_endian (within_head bytes 8 8 (omega arith)) ∙ ap (λ (text : List ℕ). number_in text 8 8) has.3
-    ∙ ap (λ (h : Header). h.id.version) (header_in_text has.1 has.2) ∙ ap (λ (i : StoreId). i.version) has.4
+    ∙ ap (λ (h : Header). h.id.version) (header_in-header_text has.1 has.2) ∙ ap (λ (i : StoreId). i.version) has.4
 
 -- one of two files is the first or the second
 pub file_cases : (P : ℕ → Type 0) (file : ℕ) → file ≤ 1 → P 0 → P 1 → P file
@@ -116,11 +106,11 @@ pub record StandsAt (partition partitions : ℕ) (id : StoreId) (changes : List 
   pub named : header.id ≡ id
   pub exact : changes_of mutations ≡ changes
 
-two_places : (first second newest : List ℕ) (before after : List (List ℕ)) → first ∷ second ∷ [] ≡ before ++ newest ∷ after
+two_offsets : (first second newest : List ℕ) (before after : List (List ℕ)) → first ∷ second ∷ [] ≡ before ++ newest ∷ after
     → ((newest ≡ first) × (after ≡ second ∷ [])) ⊎ ((before ≡ first ∷ []) × (newest ≡ second))
-two_places first second newest [] after is = inl (cc, cc)
-two_places first second newest (a ∷ []) after is = inr (cc, cc)
-two_places first second newest (a ∷ b ∷ rest) after is = absurd (omega (arith, ap length is, length-append rest (newest ∷ after)))
+two_offsets first second newest [] after is = inl (cc, cc)
+two_offsets first second newest (a ∷ []) after is = inr (cc, cc)
+two_offsets first second newest (a ∷ b ∷ rest) after is = absurd (omega (arith, ap length is, length-append rest (newest ∷ after)))
 
 -- the only one of a list
 only_one : (P : List ℕ → Type 0) (bytes : List ℕ) (all : List (List ℕ)) → all ≡ bytes ∷ [] → All P all → P bytes
@@ -152,7 +142,7 @@ found_at partition partitions file id changes m has =
       at 1 (omega arith) is.1 (λ f within ne. file_cases (λ k. k ≢ 1 → IsOlder (version_in s.newest) (m k)) f within
           (λ other. only_one (IsOlder (version_in s.newest)) (m 0) s.before is.0 s.others_before) (λ other. absurd (other refl)) ne),
     ))
-    (two_places (m 0) (m 1) s.newest s.before s.after s.place)
+    (two_offsets (m 0) (m 1) s.newest s.before s.after s.offset)
 
 -- the newest file is the one for which the files stand
 pub same_file : (partition partitions : ℕ) (id : StoreId) (changes : List Change) (m : Image) (file other : ℕ) → StandsAt partition partitions id changes m file → IsNewest m other → file ≡ other
@@ -192,7 +182,7 @@ has_store partition partitions id changes m file at headed =
         before = [];
         newest = m 0;
         after = m 1 ∷ [];
-        place = refl;
+        offset = refl;
         others_before = All-nil (IsOlder (version_in (m 0)));
         others_after = All-cons (IsOlder (version_in (m 0))) (m 1) [] (first.older 1 (omega arith) (omega arith)) (All-nil (IsOlder (version_in (m 0))));
         header = first.header;
@@ -212,7 +202,7 @@ has_store partition partitions id changes m file at headed =
         before = m 0 ∷ [];
         newest = m 1;
         after = [];
-        place = refl;
+        offset = refl;
         others_before = All-cons (IsOlder (version_in (m 1))) (m 0) [] (second.older 0 (omega arith) (omega arith)) (All-nil (IsOlder (version_in (m 1))));
         others_after = All-nil (IsOlder (version_in (m 1)));
         header = second.header;
@@ -229,15 +219,15 @@ has_store partition partitions id changes m file at headed =
     at
 
 -- files that stand for something aren't damaged
-pub undamaged : (partition partitions file : ℕ) (id : StoreId) (changes : List Change) (m : Image) (f place : ℕ) → HasStore partition partitions file id changes m → IsDamagedIn m partition partitions f place → ⊥
-undamaged partition partitions file id changes m f place has damaged = ⊎_elim
-    (λ header. headed_is_identified (m f) place (has.headed f damaged.one_of_two) header.0)
+pub undamaged : (partition partitions file : ℕ) (id : StoreId) (changes : List Change) (m : Image) (f offset : ℕ) → HasStore partition partitions file id changes m → IsDamagedIn m partition partitions f offset → ⊥
+undamaged partition partitions file id changes m f offset has damaged = ⊎_elim
+    (λ header. headed_is_identified (m f) offset (has.headed f damaged.one_of_two) header.0)
     (λ rest.
     let found = stands_at partition partitions file id changes m has in
     let at = subst (StandsAt partition partitions id changes m) (same_file partition partitions id changes m file f found rest.1) found in
-    let one : IsDamagedAt (m f) at.header.id.partition partitions place = subst (λ (p : ℕ). IsDamagedAt (m f) p partitions place) (sym at.of_partition) rest.2 in
-    let two : IsDamagedAt (m f) at.header.id.partition at.header.partitions place = subst (λ (p : ℕ). IsDamagedAt (m f) at.header.id.partition p place) (sym at.of_partitions) one in
-    text_is_whole at.header at.store.groups (m f) place at.store.text two)
+    let one : IsDamagedAt (m f) at.header.id.partition partitions offset = subst (λ (p : ℕ). IsDamagedAt (m f) p partitions offset) (sym at.of_partition) rest.2 in
+    let two : IsDamagedAt (m f) at.header.id.partition at.header.partitions offset = subst (λ (p : ℕ). IsDamagedAt (m f) at.header.id.partition p offset) (sym at.of_partitions) one in
+    text_is_whole at.header at.store.groups (m f) offset at.store.text two)
     damaged.first
 
 -- the two files alone decide
@@ -263,7 +253,7 @@ has_store_in partition partitions file id changes m n first second has =
     })
     (λ f within. subst IsHeaded (same f within) (has.headed f within))
 
--- the version stands behind the first byte
+-- the version stands after the first byte
 version_but_first : (old new : List ℕ) → ButFirst old new → version_in new ≡ version_in old
 version_but_first old new but = ap (λ (l : List ℕ). big_endian (take 8 l)) (sym (drop-drop 8 1 new) ∙ ap (λ (l : List ℕ). drop 8 l) but.rest ∙ drop-drop 8 1 old)
 

@@ -22,18 +22,18 @@ use Rattle.store_journal.specs.declared.fault.LoadFault.TheVariants as faults
 use Rattle.store_journal.specs.declared.store.Store.{Store}
 use Rattle.store_journal.proofs.TextOnce.{text_once}
 use Rattle.newest_store.specs.Newest.{IsHeaded, HasStore, IsNewest, IsOpened}
-use Rattle.newest_store.specs.Search.{fault_in, IsFileFault, IsSearchFault, IsFoundFault, IsNewestLoaded}
+use Rattle.newest_store.specs.Search.{fault_in, IsHeaderReadFault, IsSearchFault, IsOpeningFault, IsNewestLoaded}
 use Rattle.newest_store.specs.declared.fault.NewestFault.{NewestFault}
 use Rattle.newest_store.specs.declared.fault.NewestFault.TheVariants.{NoStore, Damaged, Failed, NoMemory}
 use Rattle.newest_store.proofs.NewestLemmas.{file_cases, identified_is_headed, StandsAt, stands_at, same_file, undamaged, stands_on}
 
 -- the second header can't be judged
-pub second_fails : (a b c : View) (found : Option StoreId) (fault : NewestFault) → OnlyReads a b → (Tells a → IsIdentified (a.seen 0) found) → IsFileFault b c 1 fault → IsSearchFault a c fault
+pub second_fails : (a b c : View) (found : Option StoreId) (fault : NewestFault) → OnlyReads a b → (Tells a → IsIdentified (a.seen 0) found) → IsHeaderReadFault b c 1 fault → IsSearchFault a c fault
 second_fails a b c found NoStore reads told is = absurd is
-second_fails a b c found (Damaged file place) reads told is = (
+second_fails a b c found (Damaged file offset) reads told is = (
   omega (arith, is.0),
   λ tells. (
-    subst (λ (l : List ℕ). IsUnidentifiedAt l place) (ap b.seen (sym is.0) ∙ reads.same.seen file) (is.1 (reads.onward.tells tells)),
+    subst (λ (l : List ℕ). IsUnidentifiedAt l offset) (ap b.seen (sym is.0) ∙ reads.same.seen file) (is.1 (reads.onward.tells tells)),
     λ f less.
         let zero : 0 ≡ f = omega (arith, less, is.0) in
         subst (λ (k : ℕ). IsHeaded (a.seen k)) zero (identified_is_headed (a.seen 0) found (told tells)),
@@ -49,9 +49,9 @@ both_headed a b first second reads one two tells f within = file_cases (λ k. Is
     (subst IsHeaded (reads.same.seen 1) (identified_is_headed (b.seen 1) second (two (reads.onward.tells tells))))
 
 -- no file is the newest
-pub search_fails : (a b : View) (partition partitions : ℕ) (fault : NewestFault) → IsSearchFault a b fault → IsFoundFault a b partition partitions fault
+pub search_fails : (a b : View) (partition partitions : ℕ) (fault : NewestFault) → IsSearchFault a b fault → IsOpeningFault a b partition partitions fault
 search_fails a b partition partitions NoStore is = is
-search_fails a b partition partitions (Damaged file place) is = λ tells. let found = is.1 tells in record { one_of_two = is.0; first = inl (found.0, found.1) }
+search_fails a b partition partitions (Damaged file offset) is = λ tells. let found = is.1 tells in record { one_of_two = is.0; first = inl (found.0, found.1) }
 search_fails a b partition partitions Failed is = is
 search_fails a b partition partitions NoMemory is = tt
 
@@ -59,7 +59,7 @@ search_fails a b partition partitions NoMemory is = tt
 pub load_fails : (X : Type 0) (r : Result X LoadFault) (a b c : View) (partition partitions file : ℕ) (fault : LoadFault) → r ≡ Err fault → OnlyReads a b
     → file ≤ 1 → (Tells a → IsNewest a.seen file) → (Tells a → (f : ℕ) → f ≤ 1 → IsHeaded (a.seen f))
     → (IsErrOf r faults.Failed → Rose b.faults c.faults) → (IsErrOf r faults.NotSealed → Tells b → IsUnsealed (b.seen file))
-    → ((at : ℕ) → IsErrOf r (faults.Damaged at) → Tells b → IsDamagedAt (b.seen file) partition partitions at) → IsFoundFault a c partition partitions (fault_in file fault)
+    → ((at : ℕ) → IsErrOf r (faults.Damaged at) → Tells b → IsDamagedAt (b.seen file) partition partitions at) → IsOpeningFault a c partition partitions (fault_in file fault)
 load_fails X r a b c partition partitions file faults.NotSealed was reads within newest headed failed unsealed damaged =
     λ tells. absurd (unsealed was (reads.onward.tells tells) (subst IsSealed (sym (reads.same.seen file)) (newest tells).sealed))
 load_fails X r a b c partition partitions file (faults.Damaged at) was reads within newest headed failed unsealed damaged = λ tells. record {
@@ -70,12 +70,12 @@ load_fails X r a b c partition partitions file faults.Failed was reads within ne
 load_fails X r a b c partition partitions file faults.NoMemory was reads within newest headed failed unsealed damaged = tt
 
 -- files that have a store are found
-pub whole_is_found : (a b : View) (partition partitions file : ℕ) (id : StoreId) (changes : List Change) (fault : NewestFault) → IsFoundFault a b partition partitions fault → Now a (HasStore partition partitions file id changes) → Tells a
+pub whole_is_found : (a b : View) (partition partitions file : ℕ) (id : StoreId) (changes : List Change) (fault : NewestFault) → IsOpeningFault a b partition partitions fault → Now a (HasStore partition partitions file id changes) → Tells a
     → (fault ≡ Failed) ⊎ (fault ≡ NoMemory)
 whole_is_found a b partition partitions file id changes NoStore is now tells =
     let newest = (now a.seen tells).newest in
     absurd (is tells file newest.one_of_two newest.sealed)
-whole_is_found a b partition partitions file id changes (Damaged f place) is now tells = absurd (undamaged partition partitions file id changes a.seen f place (now a.seen tells) (is tells))
+whole_is_found a b partition partitions file id changes (Damaged f offset) is now tells = absurd (undamaged partition partitions file id changes a.seen f offset (now a.seen tells) (is tells))
 whole_is_found a b partition partitions file id changes Failed is now tells = inl refl
 whole_is_found a b partition partitions file id changes NoMemory is now tells = inr refl
 
@@ -96,14 +96,14 @@ pub survives_reads : (a b : View) (P : Image → Type 0) → OnlyReads a b → N
 survives_reads a b P reads now = weakened a b a.images P reads.moments now
 
 -- what a step makes at each moment, unless another reason is found on the way
-unless_all : (a c : View) (P Q : Image → Type 0) → Throughout a c Q → ((m : Image) → Q m → P m ⊎ Throughout a c P) → Throughout a c P
+pub unless_all : (a c : View) (P Q : Image → Type 0) → Throughout a c Q → ((m : Image) → Q m → P m ⊎ Throughout a c P) → Throughout a c P
 unless_all a c P Q all goes = record {
   later = all.later;
   each = λ m left. ⊎_elim (λ has. has) (λ other. other.each m left) (goes m (all.each m left));
   before = λ t m le left. ⊎_elim inl (λ has. ⊎_elim inr (λ other. other.before t m le left) (goes m has)) (all.before t m le left);
 }
 
-sealed_or_not : (bytes : List ℕ) → IsSealed bytes ⊎ IsUnsealed bytes
+pub sealed_or_not : (bytes : List ℕ) → IsSealed bytes ⊎ IsUnsealed bytes
 sealed_or_not bytes = ⊎_elim
     (λ zero. inr (λ sealed. sealed.first zero))
     (λ first. ⊎_elim
@@ -112,7 +112,7 @@ sealed_or_not bytes = ⊎_elim
     (cases_lt (length bytes) 41))
     (cases_eq (get_or bytes 0 0) 0)
 
-settled_in : (a : View) (file : ℕ) → file ≤ 1 → IsSettled a 0 → IsSettled a 1 → IsSettled a file
+pub settled_in : (a : View) (file : ℕ) → file ≤ 1 → IsSettled a 0 → IsSettled a 1 → IsSettled a file
 settled_in a file within first second = file_cases (IsSettled a) file within first second
 
 other_file : (file : ℕ) → file ≤ 1 → (1 - file ≤ 1) × (1 - file ≢ file)
@@ -157,6 +157,29 @@ survives_clear a b c partition partitions store mutations file id changes first 
     (λ not. inr (weakened a c a.images P (same_twice a b c reads.moments (unsealed (reads.onward.tells tells) (subst IsUnsealed (sym (reads.same.seen other)) not))) now))
     (sealed_or_not (a.seen other)))
 
+-- a file that isn't sealed stays so: where it is the other one, nothing is written
+pub unsealed_clear : (a b c : View) (partition partitions : ℕ) (store : Store) (mutations : List Mutation) (file : ℕ) → IsSettled a 0 → IsSettled a 1 → OnlyReads a b
+    → IsNewestLoaded a b partition partitions store mutations → Throughout b c (After b (Moved (1 - store.file) ButFirst)) → (Tells b → IsUnsealed (b.seen (1 - store.file)) → Throughout b c b.images)
+    → file ≤ 1 → Now a (λ m. IsUnsealed (m file)) → Throughout a c (λ m. IsUnsealed (m file))
+unsealed_clear a b c partition partitions store mutations file first second reads is moments unsealed within now =
+    let P : Image → Type 0 = λ m. IsUnsealed (m file) in
+    let other : ℕ = 1 - store.file in
+    let two = other_file store.file is.one_of_two in
+    let step : Image → Image → Type 0 = Moved other ButFirst in
+    let all : Throughout a c (After a step) = same_followed a b c step (still a other ButFirst but_first_none) reads.moments moments in
+    unless_all a c P (After a step) all
+    (λ m has.
+    let o = has.0 in
+    let tells : Tells a = a.told o has.1 in
+    ⊎_elim
+    (λ same. absurd (now o has.1 (subst (λ (f : ℕ). IsSealed (o f)) (sym same) ((newest_in a o store.file first second has.1 (is.newest tells)).sealed))))
+    (λ ne.
+    let one_of_two = is.one_of_two in
+    let here : other ≡ file = omega (arith, within, one_of_two, ne) in
+    let not : IsUnsealed (a.seen other) = subst (λ (f : ℕ). IsUnsealed (a.seen f)) (sym here) (now a.seen tells) in
+    inr (weakened a c a.images P (same_twice a b c reads.moments (unsealed (reads.onward.tells tells) (subst IsUnsealed (sym (reads.same.seen other)) not))) now))
+    (cases_eq file store.file))
+
 -- the store rests, and the other file is free of one
 pub one_is_left : (a b c : View) (partition partitions : ℕ) (store : Store) (mutations : List Mutation) → IsSettled a 0 → IsSettled a 1 → IsNewestLoaded a b partition partitions store mutations
     → Throughout b c (After b (Moved (1 - store.file) ButFirst)) → Each c (1 - store.file) IsUnsealed → IsOpened c partition partitions store mutations
@@ -181,7 +204,7 @@ pub any_ok : {T E : Type 0} (r : Result T E) (X : Type 0) → X → IfOk r (λ v
 any_ok (Ok value) X has = has
 any_ok (Err fault) X has = tt
 
--- reads make no disk tell that didn't
+-- a disk that tells after reads told before them
 pub reads_told : (a b : View) → OnlyReads a b → Tells b → Tells a
 reads_told a b reads tells = a.told b.seen (reads.same.fewer b.seen tells)
 

@@ -1,5 +1,5 @@
 -- What the two files of a partition on one disk hold, and which of them counts.
-use Rattle.std.specs.Prelude.{◌≡◌, ◌≢◌, ◌⊎◌, ℕ, ◌<◌, ◌≤◌, List, [], ◌∷◌, take, drop, None}
+use Rattle.std.specs.Prelude.{◌≡◌, ◌≢◌, ◌⊎◌, ℕ, ◌<◌, ◌≤◌, List, [], ◌∷◌, None}
 use Rattle.std.specs.List.{flat_map}
 use Rattle.cache_key.specs.declared.request.Mutation.{Mutation}
 use Rattle.cache_model.specs.Change.{Change, changes_of}
@@ -12,15 +12,16 @@ use Rattle.store_journal.specs.Created.{IsUnsealed}
 use Rattle.store_journal.specs.Fault.{IsDamagedAt}
 use Rattle.store_journal.specs.Loading.{IsUnidentifiedAt}
 use Rattle.store_journal.specs.Stands.{version_in, StandsFor}
+use Rattle.store_journal.specs.Text.{header_section}
 use Rattle.store_journal.specs.declared.store.Store.{Store}
 
 -- the bytes of the two files
 abbrev pub files_of : Image → List (List ℕ)
 files_of m = m 0 ∷ m 1 ∷ []
 
--- a file that isn't sealed, or has a header behind its seal
+-- a file that isn't sealed, or has a header after its seal
 abbrev pub IsHeaded : List ℕ → Type 0
-IsHeaded bytes = IsSealed bytes → header_fault (take 40 (drop 1 bytes)) ≡ None
+IsHeaded bytes = IsSealed bytes → header_fault (header_section bytes) ≡ None
 
 -- the sealed file of greatest version, and of two with the same version the lower
 pub record IsNewest (m : Image) (file : ℕ) : Type 0 where
@@ -46,9 +47,9 @@ pub record IsOpened (v : View) (partition partitions : ℕ) (store : Store) (mut
   pub one_of_two : store.file ≤ 1
   pub alone : (file : ℕ) → file ≤ 1 → file ≢ store.file → Each v file IsUnsealed
 
--- The file is sealed and first leaves the form of a header at this place, and the files below it have headers; or each
--- file has one, and the newest first leaves the form of a store of this partition at this place.
-pub record IsDamagedIn (m : Image) (partition partitions file place : ℕ) : Type 0 where
+-- The file is sealed and first leaves the form of a header at this offset, and the files below it have headers; or each
+-- file has one, and the newest first leaves the form of a store of this partition at this offset.
+pub record IsDamagedIn (m : Image) (partition partitions file offset : ℕ) : Type 0 where
   pub one_of_two : file ≤ 1
-  pub first : (IsUnidentifiedAt (m file) place × ((f : ℕ) → f < file → IsHeaded (m f)))
-      ⊎ (((f : ℕ) → f ≤ 1 → IsHeaded (m f)) × IsNewest m file × IsDamagedAt (m file) partition partitions place)
+  pub first : (IsUnidentifiedAt (m file) offset × ((f : ℕ) → f < file → IsHeaded (m f)))
+      ⊎ (((f : ℕ) → f ≤ 1 → IsHeaded (m f)) × IsNewest m file × IsDamagedAt (m file) partition partitions offset)

@@ -1,10 +1,11 @@
 -- What is found of the two files before anything is erased.
-use Rattle.std.specs.Prelude.{⊤, ◌≡◌, ℕ, ◌<◌, ◌≤◌, List}
+use Rattle.std.specs.Prelude.{⊤, ◌≡◌, ℕ, ◌<◌, ◌≤◌, nat_lt, List, Option, None, Some, if◌then◌else◌}
 use Rattle.cache_key.specs.declared.request.Mutation.{Mutation}
 use Rattle.disk_trait.specs.View.{View, Tells}
 use Rattle.disk_trait.specs.Calls.{Rose}
 use Rattle.disk_trait.specs.declared.DiskRefusal.{DiskRefusal}
 use Rattle.disk_trait.specs.declared.DiskRefusal.TheVariants as refusals
+use Rattle.store_ident.specs.declared.ident.StoreId.{StoreId}
 use Rattle.store_journal.specs.Created.{IsUnsealed}
 use Rattle.store_journal.specs.Loading.{IsLoaded, IsUnidentifiedAt}
 use Rattle.store_journal.specs.declared.fault.LoadFault.{LoadFault}
@@ -26,26 +27,33 @@ abbrev pub disk_fault : DiskRefusal → NewestFault
 disk_fault refusals.Failed = Failed
 disk_fault refusals.NoMemory = NoMemory
 
+-- the file of the greater version, and of the same version the lower
+abbrev pub newer_of : Option StoreId → Option StoreId → Option ℕ
+newer_of (Some first) (Some second) = if nat_lt first.version second.version then Some 1 else Some 0
+newer_of (Some first) None = Some 0
+newer_of None (Some second) = Some 1
+newer_of None None = None
+
 -- why a file's header wasn't read as one
-abbrev pub IsFileFault : View → View → ℕ → NewestFault → Type 0
-IsFileFault old new file NoStore = ⊥
-IsFileFault old new file (Damaged other place) = (other ≡ file) × (Tells old → IsUnidentifiedAt (old.seen file) place)
-IsFileFault old new file Failed = Rose old.faults new.faults
-IsFileFault old new file NoMemory = old.spares → ⊥
+abbrev pub IsHeaderReadFault : View → View → ℕ → NewestFault → Type 0
+IsHeaderReadFault old new file NoStore = ⊥
+IsHeaderReadFault old new file (Damaged other offset) = (other ≡ file) × (Tells old → IsUnidentifiedAt (old.seen file) offset)
+IsHeaderReadFault old new file Failed = Rose old.faults new.faults
+IsHeaderReadFault old new file NoMemory = old.spares → ⊥
 
 -- why no file is the newest
 abbrev pub IsSearchFault : View → View → NewestFault → Type 0
 IsSearchFault old new NoStore = Tells old → (file : ℕ) → file ≤ 1 → IsUnsealed (old.seen file)
-IsSearchFault old new (Damaged file place) = (file ≤ 1) × (Tells old → IsUnidentifiedAt (old.seen file) place × ((f : ℕ) → f < file → IsHeaded (old.seen f)))
+IsSearchFault old new (Damaged file offset) = (file ≤ 1) × (Tells old → IsUnidentifiedAt (old.seen file) offset × ((f : ℕ) → f < file → IsHeaded (old.seen f)))
 IsSearchFault old new Failed = Rose old.faults new.faults
 IsSearchFault old new NoMemory = old.spares → ⊥
 
 -- why no store was loaded
-abbrev pub IsFoundFault : View → View → ℕ → ℕ → NewestFault → Type 0
-IsFoundFault old new partition partitions NoStore = Tells old → (file : ℕ) → file ≤ 1 → IsUnsealed (old.seen file)
-IsFoundFault old new partition partitions (Damaged file place) = Tells old → IsDamagedIn old.seen partition partitions file place
-IsFoundFault old new partition partitions Failed = Rose old.faults new.faults
-IsFoundFault old new partition partitions NoMemory = ⊤
+abbrev pub IsOpeningFault : View → View → ℕ → ℕ → NewestFault → Type 0
+IsOpeningFault old new partition partitions NoStore = Tells old → (file : ℕ) → file ≤ 1 → IsUnsealed (old.seen file)
+IsOpeningFault old new partition partitions (Damaged file offset) = Tells old → IsDamagedIn old.seen partition partitions file offset
+IsOpeningFault old new partition partitions Failed = Rose old.faults new.faults
+IsOpeningFault old new partition partitions NoMemory = ⊤
 
 -- the newest store of the two files was loaded, as one of this partition
 pub record IsNewestLoaded (old new : View) (partition partitions : ℕ) (store : Store) (mutations : List Mutation) : Type 0 where

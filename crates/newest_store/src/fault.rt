@@ -10,11 +10,11 @@ use store_journal::LoadFault;
 pub enum NewestFault {
     /// Neither file is sealed.
     NoStore,
-    /// This file is sealed, and first leaves the form of a store of the partition at this place, from 0.
+    /// This file is sealed, and first leaves the form of a store of the partition at this offset, from 0.
     Damaged { file: u8, at: u64 },
     /// The device failed, and the disk's count of faults rose in this call.
     Failed,
-    /// Want of memory, here or at the disk.
+    /// Out of memory, here or at the disk.
     NoMemory,
 }
 

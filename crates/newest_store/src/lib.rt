@@ -1,17 +1,21 @@
-//! The newest store of a partition among the files of one disk.
+//! The newest store of a partition among files 0 and 1 of one disk.
 //!
-//! Seen as: of files 0 and 1 the sealed one of greatest version counts (`IsNewest`, specs/Newest.antt).
-//! Keeps: at every moment of `load_newest` the files stand for what they stood for (`HasStore`), and after Ok exactly one
-//! of them is sealed (`IsOpened`).
-//! Hides: that headers are judged before a file is read whole, and that the older file is erased last.
-//! Not here: what a store's bytes are (store_journal), and what a recovery tells of a refusal (cluster_cli).
+//! Seen as: the sealed file of greatest version counts (`IsNewest`, specs/Newest.antt), and the files have its store
+//! (`HasStore`).
+//! Keeps: at every moment of `load_newest` the files stand for what they stood for, and after Ok exactly one of them is
+//! sealed (`IsOpened`); at every moment of `clear_stores` the newest store is as it was unless no other is left
+//! (`ClearsOlderFirst`, specs/Clearing.antt), and after Ok no file is sealed.
+//! Hides: that headers are judged before a file is read whole, and that the older file is erased last when one is opened,
+//! and first when both are cleared.
+//! Not here: what a store's bytes are (store_journal), and what a recovery says of a refusal (cluster_cli).
+//! Laws: NewestLemmas.
 #![tactic(auto)]
 
+mod clearing;
 mod fault;
 mod newest;
 mod search;
-#[cfg(test)]
-mod tests;
 
+pub use clearing::clear_stores;
 pub use fault::NewestFault;
 pub use newest::load_newest;

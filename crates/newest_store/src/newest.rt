@@ -37,7 +37,7 @@ pub fn load_newest<D: Disk>(
     ensures contents { IfOk result (λ loaded. (file : ℕ) (id : StoreId) (changes : List Change) → Now (D.view disk.old) (HasStore partition partitions file id changes) → Tells (D.view disk.old)
         → (loaded.store.file ≡ file) × (loaded.store.id ≡ id) × (changes_of loaded.mutations.items ≡ changes)) }
 
-    // The refusals. Files that have a store are never refused but for the device or want of memory.
+    // The refusals. Files that have a store are refused only where the device fails or memory runs out.
     ensures failed { IsErrOf result Failed → Rose (D.view disk.old).faults (D.view disk.new).faults }
     ensures none { IsErrOf result NoStore → Tells (D.view disk.old) → (file : ℕ) → file ≤ 1 → IsUnsealed ((D.view disk.old).seen file) }
     ensures damaged { (file at : ℕ) → IsErrOf result (Damaged file at) → Tells (D.view disk.old) → IsDamagedIn (D.view disk.old).seen partition partitions file at }
@@ -47,6 +47,7 @@ pub fn load_newest<D: Disk>(
     // At every moment, and after a refusal, the files stand for what they stood for.
     ensures survives { (file : ℕ) (id : StoreId) (changes : List Change) → Now (D.view disk.old) (HasStore partition partitions file id changes)
         → Throughout (D.view disk.old) (D.view disk.new) (HasStore partition partitions file id changes) }
+    ensures unsealed { (file : ℕ) → file ≤ 1 → Now (D.view disk.old) (λ m. IsUnsealed (m file)) → Throughout (D.view disk.old) (D.view disk.new) (λ m. IsUnsealed (m file)) }
     ensures as_before { (fault : NewestFault) → IsErrOf result fault → fault ≢ Failed → fault ≢ NoMemory → Same (D.view disk.old) (D.view disk.new) }
     ensures blank { Tells (D.view disk.old) → ((file : ℕ) → file ≤ 1 → IsUnsealed ((D.view disk.old).seen file)) → Same (D.view disk.old) (D.view disk.new) }
     ensures others { (f : ℕ) → 2 ≤ f → (D.view disk.new).seen f ≡ (D.view disk.old).seen f }

@@ -1,10 +1,10 @@
 // Which file is the newest, and what its store has. Nothing is written here.
-ghost use Rattle.std.specs.Prelude.{ℕ, ◌≤◌, IfOk, IfErr, MatchOption};
+ghost use Rattle.std.specs.Prelude.{◌≡◌, ℕ, ◌≤◌, IfOk, IfErr, MatchOption};
 ghost use Rattle.disk_trait.specs.View.{Image, View, Tells};
 ghost use Rattle.store_journal.specs.Created.{IsUnsealed};
 ghost use Rattle.store_journal.specs.Loading.{IsIdentified, OnlyReads};
 ghost use Rattle.newest_store.specs.Newest.{IsHeaded, IsNewest};
-ghost use Rattle.newest_store.specs.Search.{IsFileFault, IsSearchFault, IsFoundFault, IsNewestLoaded};
+ghost use Rattle.newest_store.specs.Search.{newer_of, IsHeaderReadFault, IsSearchFault, IsOpeningFault, IsNewestLoaded};
 
 use crate::fault::{NewestFault, fault_in};
 use disk_trait::Disk;
@@ -21,7 +21,7 @@ pub(crate) fn load_found<D: Disk>(
     partitions: u16,
 ) -> Result<Loaded, NewestFault>
     ensures loaded { IfOk result (λ loaded. IsNewestLoaded (D.view disk.old) (D.view disk.new) partition partitions loaded.store loaded.mutations.items) }
-    ensures refused { IfErr result (λ fault. IsFoundFault (D.view disk.old) (D.view disk.new) partition partitions fault) }
+    ensures refused { IfErr result (λ fault. IsOpeningFault (D.view disk.old) (D.view disk.new) partition partitions fault) }
     ensures reads_only { OnlyReads (D.view disk.old) (D.view disk.new) }
 {
     let file = find_newest(disk)?;
@@ -31,7 +31,7 @@ pub(crate) fn load_found<D: Disk>(
     }
 }
 
-/// Judges both headers, and tells which file is the newest.
+/// Judges both headers, and finds which file is the newest.
 #[tactic(auto, using(crate::proofs::SearchLemmas::second_fails))]
 fn find_newest<D: Disk>(disk: &mut D) -> Result<u8, NewestFault>
     ensures one_of_two { IfOk result (λ file. file ≤ 1) }
@@ -45,11 +45,11 @@ fn find_newest<D: Disk>(disk: &mut D) -> Result<u8, NewestFault>
     newer(first, second).ok_or(NewestFault::NoStore)
 }
 
-/// Tells which store stands in a file.
+/// Finds which store stands in a file.
 fn identify_in<D: Disk>(disk: &mut D, file: u8) -> Result<Option<StoreId>, NewestFault>
     requires file { file ≤ 1 }
     ensures told { IfOk result (λ found. Tells (D.view disk.old) → IsIdentified ((D.view disk.old).seen file) found) }
-    ensures refused { IfErr result (λ fault. IsFileFault (D.view disk.old) (D.view disk.new) file fault) }
+    ensures refused { IfErr result (λ fault. IsHeaderReadFault (D.view disk.old) (D.view disk.new) file fault) }
     ensures reads_only { OnlyReads (D.view disk.old) (D.view disk.new) }
 {
     match identify(disk, file) {
@@ -60,8 +60,9 @@ fn identify_in<D: Disk>(disk: &mut D, file: u8) -> Result<Option<StoreId>, Newes
 
 /// The file of the greater version, and of the same version the lower.
 #[tactic(auto, using(crate::proofs::NewestLemmas::first_alone, crate::proofs::NewestLemmas::second_alone, crate::proofs::NewestLemmas::none_newest))]
-fn newer(first: Option<StoreId>, second: Option<StoreId>) -> Option<u8>
-    ensures { MatchOption result
+pub(crate) fn newer(first: Option<StoreId>, second: Option<StoreId>) -> Option<u8>
+    ensures file { result ≡ newer_of first second }
+    ensures newest { MatchOption result
         ((m : Image) → IsIdentified (m 0) first → IsIdentified (m 1) second → (file : ℕ) → file ≤ 1 → IsUnsealed (m file))
         (λ file. (file ≤ 1) × ((m : Image) → IsIdentified (m 0) first → IsIdentified (m 1) second → IsNewest m file)) }
 {

@@ -1,12 +1,19 @@
 //! `persist`: the real streams and the site of a run, the top call, and its status as the process's exit code.
+//!
+//! Seen as: the words of the command line, standard input and standard output, over a disk in memory.
+//! Keeps: nothing of its own; what a run does is `run_steps` (cluster_cli). What was wrong with the words or a line is
+//!   printed on standard error, which no clause speaks of.
+//! Hides: that words which aren't text plan no run.
+//! Not here: how the program is proved, built and run unproved (the launcher ./persist).
 #![tactic(auto)]
 
-use cluster_cli::{StandardSink, StandardSource, memory_site, run_steps};
+use cluster_cli::{StandardSink, StandardSource, run_steps};
+use plan_site::memory_site;
 use std::env;
 use std::io::ErrorKind;
 use std::process::ExitCode;
 
-/// The exit code for want of memory.
+/// The exit code where memory runs out.
 const NO_MEMORY: u8 = 5;
 
 fn main(rt: HostRuntime) -> ExitCode {
@@ -31,5 +38,9 @@ fn main(rt: HostRuntime) -> ExitCode {
     let mut source = StandardSource::new(&rt);
     let mut sink = StandardSink::new(&rt);
     let ended = run_steps(&rt, alloc, words, &mut source, &mut sink, site);
+    if let Some(reason) = ended.reason {
+        // The status says that something was wrong, also where this can't be printed.
+        let _ = eprintln!(rt; "persist: {reason}");
+    }
     ExitCode::from(ended.status)
 }

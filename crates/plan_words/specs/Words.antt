@@ -1,4 +1,4 @@
--- What the words of the command line plan. Texts are their bytes.
+-- The plans of command-line arguments. Arguments are their bytes.
 use Rattle.std.specs.Prelude.{◌≡◌, ◌≢◌, ℕ, ◌<◌, ◌≤◌, ◌^◌, List, [], ◌∷◌, ◌++◌, codes, slice_index, map, Option, Some, None, IfSome, String, string_bytes}
 use Rattle.std.specs.Fmt.{decimal}
 use Rattle.std.specs.Option.{unwrap_or}
@@ -9,21 +9,25 @@ use Rattle.cache_key.specs.declared.fault.NameFault.TheVariants as names
 use Rattle.plan_words.specs.declared.words.WordFault.{WordFault}
 use Rattle.plan_words.specs.declared.words.WordFault.TheVariants.{Words, NoMemory}
 
--- the word may be an option's value: it doesn't begin as an option does
+-- the argument may be the value of an option: it doesn't begin as an option does
 abbrev pub IsValueWord : List ℕ → Type 0
 IsValueWord word = slice_index word 0 ≢ 45
 
--- ---- the options of the disk, which a run may do without
+-- ---- the options of the disk
 
 -- the number of a changing call, counted from 1
 abbrev pub IsCall : ℕ → Type 0
 IsCall call = (1 ≤ call) × (call < 2 ^ 64)
 
--- the number of an image that a stop may leave
-abbrev pub IsImage : ℕ → Type 0
-IsImage image = image ≤ 3
+-- the last image that a stop may leave, from 0
+abbrev pub last_image : ℕ
+last_image = 3
 
--- the one disk, which is the host's in partition 0, and the call from which on it fails
+-- the number of an image that a stop may leave
+abbrev pub IsPick : ℕ → Type 0
+IsPick image = image ≤ last_image
+
+-- a cut: the host's disk of partition 0, and the call from which on it fails
 abbrev pub cut_word : List ℕ → ℕ → List ℕ
 cut_word host call = host ++ codes "/0/" ++ decimal call
 
@@ -35,16 +39,16 @@ abbrev pub pick_words : Option ℕ → List (List ℕ)
 pick_words None = []
 pick_words (Some image) = codes "--pick" ∷ decimal image ∷ []
 
--- the words of a run of steps with one partition on this host, whose disk has this cut and this pick, if any
+-- the arguments of a run on this host with one partition, whose disk has this cut and this pick, if any
 pub record PlanWords (words : List (List ℕ)) (host : List ℕ) (cut picked : Option ℕ) : Type 0 where
   pub words_are : words ≡ codes "steps" ∷ codes "--hosts" ∷ host ∷ codes "--partitions" ∷ codes "1" ∷ (cut_words host cut ++ pick_words picked)
   pub value_word : IsValueWord host
   pub call : IfSome cut IsCall
-  pub image : IfSome picked IsImage
+  pub image : IfSome picked IsPick
 
--- ---- what words plan
+-- ---- plans
 
--- the words plan a run on these hosts with so many partitions
+-- the arguments plan a run on these hosts with this many partitions
 pub record IsPlan (words : List (List ℕ)) (hosts : List (List ℕ)) (partitions : ℕ) : Type 0 where
   pub host : List ℕ
   pub cut : Option ℕ
@@ -54,39 +58,39 @@ pub record IsPlan (words : List (List ℕ)) (hosts : List (List ℕ)) (partition
   pub hosts_are : hosts ≡ host ∷ []
   pub partitions_are : partitions ≡ 1
 
--- the words have a plan
+-- the arguments have a plan
 abbrev pub IsPlanned : List (List ℕ) → Type 0
 IsPlanned words = (hosts : List (List ℕ)) × (partitions : ℕ) × IsPlan words hosts partitions
 
--- the words have no plan
+-- the arguments have no plan
 abbrev pub HasNoPlan : List (List ℕ) → Type 0
 HasNoPlan words = (hosts : List (List ℕ)) (partitions : ℕ) → IsPlan words hosts partitions → ⊥
 
--- where the words have a plan, these are its hosts and the number of its partitions
+-- if the arguments have a plan, these are its hosts and the number of its partitions
 abbrev pub IsSiteOf : List (List ℕ) → List (List ℕ) → ℕ → Type 0
 IsSiteOf words hosts partitions = (planned : List (List ℕ)) (count : ℕ) → IsPlan words planned count → (hosts ≡ planned) × (partitions ≡ count)
 
--- the words plan this cut of the one disk, and this image at its restart, which is the first where they pick none
+-- the arguments plan this cut of the one disk, and this image at its restart: the first one if they pick none
 pub record IsDiskPlan (words : List (List ℕ)) (cut : Option ℕ) (pick : ℕ) : Type 0 where
   pub host : List ℕ
   pub picked : Option ℕ
   pub words_are : PlanWords words host cut picked
   pub pick_is : pick ≡ unwrap_or picked 0
 
--- the words as contracts see them
+-- the arguments as contracts see them
 abbrev pub words_of : List (String Global) → List (List ℕ)
 words_of words = map string_bytes words
 
--- ---- the parts of the words
+-- ---- the parts of the arguments
 
--- the words that every plan has, in their order
+-- the arguments that every plan has, in their order
 pub record AreFixed (steps hosts partitions count : List ℕ) : Type 0 where
   pub steps_is : steps ≡ codes "steps"
   pub hosts_is : hosts ≡ codes "--hosts"
   pub partitions_is : partitions ≡ codes "--partitions"
   pub count_is : count ≡ codes "1"
 
--- the words begin as those of every plan do, name this host, and end with these options
+-- the arguments begin as those of every plan do, name this host, and end with these options
 pub record HostWord (words : List (List ℕ)) (host : List ℕ) (options : List (List ℕ)) : Type 0 where
   pub words_are : words ≡ codes "steps" ∷ codes "--hosts" ∷ host ∷ codes "--partitions" ∷ codes "1" ∷ options
   pub value_word : IsValueWord host
@@ -107,7 +111,7 @@ IsNoCutOption host option value = (call : ℕ) → IsCutOption host option value
 pub record IsPickOption (option value : List ℕ) (image : ℕ) : Type 0 where
   pub option_is : option ≡ codes "--pick"
   pub value_is : value ≡ decimal image
-  pub image_is : IsImage image
+  pub image_is : IsPick image
 
 abbrev pub IsNoPickOption : List ℕ → List ℕ → Type 0
 IsNoPickOption option value = (image : ℕ) → IsPickOption option value image → ⊥
@@ -116,14 +120,19 @@ IsNoPickOption option value = (image : ℕ) → IsPickOption option value image 
 pub record AreOptions (host : List ℕ) (options : List (List ℕ)) (cut picked : Option ℕ) : Type 0 where
   pub options_are : options ≡ cut_words host cut ++ pick_words picked
   pub call : IfSome cut IsCall
-  pub image : IfSome picked IsImage
+  pub image : IfSome picked IsPick
 
 abbrev pub AreNoOptions : List ℕ → List (List ℕ) → Type 0
 AreNoOptions host options = (cut picked : Option ℕ) → AreOptions host options cut picked → ⊥
 
--- why a host's word is no name: want of memory, or the words
-abbrev pub unnamed_fault : NameFault → WordFault
-unnamed_fault names.Empty = Words
-unnamed_fault names.Long = Words
-unnamed_fault (names.BadByte at) = Words
-unnamed_fault names.NoMemory = NoMemory
+-- the arguments are refused, and memory did not run out
+abbrev pub IsOfWords : WordFault → Type 0
+IsOfWords (Words reason) = Unit {0}
+IsOfWords NoMemory = ⊥
+
+-- a refused name of the host refuses the arguments, running out of memory aside
+abbrev pub IsFaultOfHost : NameFault → WordFault → Type 0
+IsFaultOfHost names.Empty fault = IsOfWords fault
+IsFaultOfHost names.Long fault = IsOfWords fault
+IsFaultOfHost (names.BadByte at) fault = IsOfWords fault
+IsFaultOfHost names.NoMemory fault = fault ≡ NoMemory

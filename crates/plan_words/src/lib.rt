@@ -1,15 +1,16 @@
-//! What the words of the command line plan: a site, and how its disk fails.
+//! What the command-line arguments plan: the hosts of a run, and how its disk fails.
 //!
-//! Seen as: words are the list of their bytes; `PlanWords` (specs/Words.antt) writes out the words of a plan.
-//! Keeps: words are refused exactly where they have no plan (`HasNoPlan`), want of memory aside; no words have two plans
-//!   (`IsSiteOf`, clause `disk_alone`).
-//! Hides: in which order the words are read, and how a number is.
-//! Not here: what a cut disk does (disk_memory), which site is made for a plan (cluster_cli).
-//! Words: docs/SCRIPT.md.
+//! Seen as: arguments are lists of bytes. `PlanWords` (specs/Words.antt) writes out the arguments of a plan.
+//! Keeps: arguments are refused exactly if they have no plan (`HasNoPlan`), running out of memory aside. The plan is the
+//!   only one (`IsSiteOf`, clause `disk_alone`). The reason of a refusal is for a person: no clause speaks of it.
+//! Hides: the order in which arguments are read, and how a number is read.
+//! Not here: what a disk with a cut does (disk_memory), the disks of a plan (plan_site).
+//! Arguments: docs/SCRIPT.md.
 #![tactic(auto)]
 
-#[cfg(test)]
-mod tests;
+mod explain;
+mod reason;
 mod words;
 
+pub use reason::{Expected, WordReason};
 pub use words::{Plan, WordFault, site_plan};

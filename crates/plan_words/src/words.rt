@@ -1,49 +1,60 @@
-//! What the words of the command line plan.
+//! Reads the plan of the command-line arguments.
 ghost use Rattle.std.specs.Prelude.{◌≡◌, ◌≢◌, ◌↔◌, ℕ, List, [], ◌∷◌, ◌++◌, Option, IfOk, IfErr, IfSome, IfNone, IsErrOf, IsTrue, string_bytes};
 ghost use Rattle.std.specs.Fmt.{decimal};
 ghost use Rattle.std.specs.Option.{unwrap_or};
-ghost use Rattle.plan_words.specs.Words.{IsPlan, IsSiteOf, IsDiskPlan, HasNoPlan, HostWord, HasNoHostWord, IsValueWord, AreFixed, AreOptions, AreNoOptions, IsCutOption, IsNoCutOption, IsPickOption, IsNoPickOption, IsCall, IsImage, unnamed_fault, words_of};
+ghost use Rattle.plan_words.specs.Words.{IsPlan, IsSiteOf, IsDiskPlan, HasNoPlan, HostWord, HasNoHostWord, IsValueWord, AreFixed, AreOptions, AreNoOptions, IsCutOption, IsNoCutOption, IsPickOption, IsNoPickOption, IsCall, IsPick, words_of};
+ghost use Rattle.plan_words.specs.declared.reason.WordReason.{WordReason};
 
-use cache_key::{HostName, NameFault};
+use crate::explain::{fixed_reason, host_fault, option_reason};
+use crate::reason::WordReason;
+use cache_key::HostName;
 use std::alloc::Global;
 use thiserror::Error;
 
-/// Why words have no plan.
-#[derive(Clone, Copy, Debug, PartialEq, Eq, Drop, Error)]
+/// The number of partitions of every plan.
+const PARTITIONS: u16 = 1;
+
+/// The last image that a stop may leave, from 0.
+pub(crate) const LAST_IMAGE: u8 = 3;
+
+const LAST_DIGIT: u8 = b'0' + LAST_IMAGE;
+
+/// Why arguments have no plan.
+#[derive(Clone, Copy, Debug, Drop, Error)]
 pub enum WordFault {
-    /// They aren't those of a run.
-    #[error("these words plan no run")]
-    Words,
-    /// The plan wants memory.
-    #[error("the plan wants memory")]
+    /// They plan no run. The reason is for a person.
+    #[error("{reason}")]
+    Words { reason: WordReason },
+    /// There was no memory for the plan.
+    #[error("out of memory")]
     NoMemory,
 }
 
-/// What a run is to have.
+/// The hosts, the partitions and the disk failure of a run.
 #[derive(Drop)]
 pub struct Plan {
     pub partitions: u16,
-    /// The site's hosts, in rising byte order.
+    /// The hosts, in byte order.
     pub hosts: Vec<HostName>,
-    /// The number of the first changing call of the one disk that fails with all later ones, until the disk is started
-    /// anew.
+    /// The first changing call of the one disk that fails, counted from 1. All later calls fail until the disk is
+    /// restarted.
     pub cut: Option<u64>,
-    /// Which of the images that a stop may leave a restart of the disk takes: docs/SCRIPT.md.
+    /// Which of the images that a stop may leave the disk has after its restart: docs/SCRIPT.md.
     pub pick: u8,
 }
 
-// What the options say of the one disk.
+// The options of the one disk.
 #[derive(Clone, Copy)]
 struct Chosen {
     cut: Option<u64>,
     picked: Option<u8>,
 }
 
-/// The plan of the words: `steps`, `--hosts` with one name, `--partitions` with `1`, then perhaps `--cut` with
+/// The plan of the arguments: `steps`, `--hosts` with one name, `--partitions` with `1`, then perhaps `--cut` with
 /// `NAME/0/CALL`, then perhaps `--pick` with `0`, `1`, `2` or `3`, in this order.
 ///
-/// The program's own name isn't among the words. An option's value doesn't begin with `-`. The call is a decimal number
-/// from 1, without sign or leading zero.
+/// The program's own name is not among them. The name of the host doesn't begin with `-`. The call is a decimal number
+/// from 1, without a sign or leading zeros. Takes memory for the name.
 #[tactic(auto, using(crate::proofs::WordsLemmas::sited))]
 pub fn site_plan(alloc: Global, words: &[String]) -> Result<Plan, WordFault>
     ensures plan { IfOk result (λ plan. IsPlan (words_of words.now) plan.hosts.items plan.partitions) }
@@ -51,17 +62,21 @@ pub fn site_plan(alloc: Global, words: &[String]) -> Result<Plan, WordFault>
     ensures disk { IfOk result (λ plan. IsDiskPlan (words_of words.now) plan.cut plan.pick) }
     ensures disk_alone { IfOk result (λ plan. (cut : Option ℕ) (pick : ℕ) → IsDiskPlan (words_of words.now) cut pick → (cut ≡ plan.cut) × (pick ≡ plan.pick)) }
 
-    ensures words { IsErrOf result WordFault.Words → HasNoPlan (words_of words.now) }
+    ensures words { (reason : WordReason) → IsErrOf result (WordFault.Words reason) → HasNoPlan (words_of words.now) }
 {
     let Some((word, options)) = host_word(words) else {
-        return Err(WordFault::Words);
+        return Err(WordFault::Words {
+            reason: fixed_reason(words),
+        });
     };
     let Some(chosen) = chosen_by(word, options) else {
-        return Err(WordFault::Words);
+        return Err(WordFault::Words {
+            reason: option_reason(word, words),
+        });
     };
     let host = match HostName::of(alloc, word) {
         Ok(host) => host,
-        Err(fault) => return Err(unnamed(fault)),
+        Err(fault) => return Err(host_fault(fault, word)),
     };
     let plan = plan_on(alloc, host, chosen)?;
     Ok(plan)
@@ -76,7 +91,7 @@ fn plan_on(alloc: Global, host: HostName, chosen: Chosen) -> Result<Plan, WordFa
     let mut hosts = Vec::new(alloc);
     match hosts.push(host) {
         Ok(()) => Ok(Plan {
-            partitions: 1,
+            partitions: PARTITIONS,
             hosts,
             cut: chosen.cut,
             pick: chosen.picked.unwrap_or(0),
@@ -85,17 +100,7 @@ fn plan_on(alloc: Global, host: HostName, chosen: Chosen) -> Result<Plan, WordFa
     }
 }
 
-// Why a host's word is no name.
-fn unnamed(fault: NameFault) -> WordFault
-    ensures { result ≡ unnamed_fault fault }
-{
-    match fault {
-        NameFault::NoMemory => WordFault::NoMemory,
-        NameFault::Empty | NameFault::Long | NameFault::BadByte(_) => WordFault::Words,
-    }
-}
-
-// The word that names the host, where those around it are as they have to be, and the options behind them.
+// The argument that names the host, and the options, if the arguments around the name are those of a plan.
 fn host_word(words: &[String]) -> Option<(&str, &[String])>
     ensures found { IfSome result (λ found. HostWord (words_of words.now) found.0.now (words_of found.1.now)) }
     ensures none { IfNone result (HasNoHostWord (words_of words.now)) }
@@ -113,7 +118,7 @@ fn host_word(words: &[String]) -> Option<(&str, &[String])>
     }
 }
 
-// Whether these words are those that every plan has.
+// Whether these are the arguments that every plan has.
 fn are_fixed(steps: &String, hosts: &String, partitions: &String, count: &String) -> bool
     ensures { IsTrue result ↔ AreFixed (string_bytes steps.now) (string_bytes hosts.now) (string_bytes partitions.now) (string_bytes count.now) }
 {
@@ -123,8 +128,8 @@ fn are_fixed(steps: &String, hosts: &String, partitions: &String, count: &String
         && count.as_str() == "1"
 }
 
-// Whether the word may be an option's value.
-fn is_value_word(word: &str) -> bool
+// Whether the argument may be the value of an option.
+pub(crate) fn is_value_word(word: &str) -> bool
     ensures { IsTrue result ↔ IsValueWord word.now }
 {
     match word.as_bytes() {
@@ -133,7 +138,7 @@ fn is_value_word(word: &str) -> bool
     }
 }
 
-// What the options behind the host choose.
+// The cut and the pick of the options.
 fn chosen_by(host: &str, options: &[String]) -> Option<Chosen>
     ensures found { IfSome result (λ chosen. AreOptions host.now (words_of options.now) chosen.cut chosen.picked) }
     ensures none { IfNone result (AreNoOptions host.now (words_of options.now)) }
@@ -155,7 +160,7 @@ fn chosen_by(host: &str, options: &[String]) -> Option<Chosen>
     }
 }
 
-// What one option chooses.
+// The cut or the pick of one option.
 fn one_chosen(host: &str, option: &str, value: &str) -> Option<Chosen>
     ensures found { IfSome result (λ chosen. AreOptions host.now (option.now ∷ value.now ∷ []) chosen.cut chosen.picked) }
     ensures none { IfNone result (AreNoOptions host.now (option.now ∷ value.now ∷ [])) }
@@ -173,7 +178,7 @@ fn one_chosen(host: &str, option: &str, value: &str) -> Option<Chosen>
     })
 }
 
-// What two options choose, each with its value.
+// The cut and the pick of two options, each with its value.
 fn two_chosen(host: &str, first: &str, cut: &str, second: &str, pick: &str) -> Option<Chosen>
     ensures found { IfSome result (λ chosen. AreOptions host.now (first.now ∷ cut.now ∷ second.now ∷ pick.now ∷ []) chosen.cut chosen.picked) }
     ensures none { IfNone result (AreNoOptions host.now (first.now ∷ cut.now ∷ second.now ∷ pick.now ∷ [])) }
@@ -186,7 +191,7 @@ fn two_chosen(host: &str, first: &str, cut: &str, second: &str, pick: &str) -> O
     })
 }
 
-// The call from which on the option has the host's disk fail.
+// The call from which on the host's disk fails, if the option and its value are a cut.
 fn cut_call(host: &str, option: &str, value: &str) -> Option<u64>
     ensures found { IfSome result (λ call. IsCutOption host.now option.now value.now call) }
     ensures none { IfNone result (IsNoCutOption host.now option.now value.now) }
@@ -194,23 +199,22 @@ fn cut_call(host: &str, option: &str, value: &str) -> Option<u64>
     if option != "--cut" {
         return None;
     }
-    let disk = behind(host, value)?;
-    let call = behind("/0/", disk)?;
+    let disk = following(host, value)?;
+    let call = following("/0/", disk)?;
     call_of(call)
 }
 
-// What stands behind this front of the word.
-fn behind<'a>(front: &str, word: &'a str) -> Option<&'a str>
-    ensures found { IfSome result (λ rest. word.now ≡ front.now ++ rest.now) }
-    ensures none { IfNone result ((rest : List ℕ) → word.now ≢ front.now ++ rest) }
+// What stands after this prefix of the argument, if it has the prefix.
+pub(crate) fn following<'a>(prefix: &str, word: &'a str) -> Option<&'a str>
+    ensures found { IfSome result (λ rest. word.now ≡ prefix.now ++ rest.now) }
+    ensures none { IfNone result ((rest : List ℕ) → word.now ≢ prefix.now ++ rest) }
 {
-    word.strip_prefix(front)
+    word.strip_prefix(prefix)
 }
 
-// The call that the word numbers. The library's `parse` takes a plus and leading zeros too, so the first byte decides
-// beforehand.
+// The call that the argument numbers. `parse` accepts a plus sign and leading zeros too, so the first byte is tested.
 #[tactic(auto, using(crate::proofs::NumberLemmas::call_found, crate::proofs::NumberLemmas::call_none, crate::proofs::NumberLemmas::begins_call))]
-fn call_of(word: &str) -> Option<u64>
+pub(crate) fn call_of(word: &str) -> Option<u64>
     ensures found { IfSome result (λ call. (word.now ≡ decimal call) × IsCall call) }
     ensures none { IfNone result ((call : ℕ) → IsCall call → word.now ≢ decimal call) }
 {
@@ -220,7 +224,7 @@ fn call_of(word: &str) -> Option<u64>
     }
 }
 
-// The image that the option picks.
+// The image that the option picks, if it and its value are a pick.
 fn picked_image(option: &str, value: &str) -> Option<u8>
     ensures found { IfSome result (λ image. IsPickOption option.now value.now image) }
     ensures none { IfNone result (IsNoPickOption option.now value.now) }
@@ -231,14 +235,14 @@ fn picked_image(option: &str, value: &str) -> Option<u8>
     image_of(value)
 }
 
-// The image that the word numbers.
+// The image that the argument numbers.
 #[tactic(auto, using(crate::proofs::NumberLemmas::image_found, crate::proofs::NumberLemmas::image_digit))]
-fn image_of(word: &str) -> Option<u8>
-    ensures found { IfSome result (λ image. (word.now ≡ decimal image) × IsImage image) }
-    ensures none { IfNone result ((image : ℕ) → IsImage image → word.now ≢ decimal image) }
+pub(crate) fn image_of(word: &str) -> Option<u8>
+    ensures found { IfSome result (λ image. (word.now ≡ decimal image) × IsPick image) }
+    ensures none { IfNone result ((image : ℕ) → IsPick image → word.now ≢ decimal image) }
 {
     match word.as_bytes() {
-        [digit @ b'0'..=b'3'] => Some(*digit - b'0'),
+        [digit @ b'0'..=LAST_DIGIT] => Some(*digit - b'0'),
         _ => None,
     }
 }

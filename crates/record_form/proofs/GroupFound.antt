@@ -1,11 +1,11 @@
--- What is spelled is found at its places.
+-- What is spelled is found at its offsets.
 use Rattle.std.proofs.Common.{◌≡◌, ℕ, ◌+◌, ◌^◌, ◌<◌, ◌≤◌, Bool, true, List, [], ◌∷◌, ◌++◌, length, take, drop, refl, sym, ap, ◌∙◌, arith, Option, None, Some, nat_le}
 use Rattle.std.specs.Prelude.{◌==◌}
 use Rattle.std.specs.Str.{IsUtf8, is_utf8}
 use Rattle.std.specs.Str.Lossy.{utf8_valid_len}
 use Rattle.std.proofs.lemmas.Bool.{le-leb}
 use Rattle.std.proofs.lemmas.List.{take_at, drop_at, append_assoc, length-append}
-use Rattle.byte_fields.specs.Numbers.{big_endian, bytes_of, bytes8}
+use Rattle.byte_fields.specs.Numbers.{big_endian, bytes_of, bytes8, number_in}
 use Rattle.byte_fields.specs.Counted.{counted_text, counted8_text, counted16_text, counted32_text}
 use Rattle.byte_fields.proofs.NumbersLemmas.{big_endian-bytes_of, length-bytes_of}
 use Rattle.byte_fields.proofs.CountedLemmas.{length-counted_text}
@@ -15,56 +15,56 @@ use Rattle.cache_key.specs.declared.request.Mutation.TheVariants.{Put}
 use Rattle.record_form.specs.declared.fault.RecordFault.{RecordFault}
 use Rattle.record_form.specs.declared.fault.RecordFault.TheVariants.{Range, Name}
 use Rattle.record_form.specs.GroupText.{IsMutation, IsGroupText, put_tag, group_text}
-use Rattle.record_form.specs.HeaderFault.{number_in, first_failed}
-use Rattle.record_form.specs.GroupFault.{text_in, key_place, value_place, put_end, mutation_in, name_prefix, count_checks, name_fault, text_fault, head_checks, head_fault, group_fault, ◌before◌}
+use Rattle.record_form.specs.HeaderFault.{first_failed}
+use Rattle.record_form.specs.GroupFault.{text_in, key_offset, value_offset, put_end, mutation_in, name_prefix_length, count_checks, name_fault, text_fault, head_checks, head_fault, group_fault, ◌before◌}
 use Rattle.record_form.proofs.GroupLemmas.{length-group_of_put}
 use Rattle.record_form.proofs.HeaderLemmas.{AllPass, are_both}
 use Rattle.record_form.proofs.ReadingLemmas.{are_utf8, prefix_whole}
 
--- a number that is spelled at a place
-pub number_at : (payload front after : List ℕ) (place size n : ℕ) → n < 256 ^ size → length front ≡ place → payload ≡ front ++ (bytes_of size n ++ after) → number_in payload place size ≡ n
-number_at payload front after place size n fits long here =
-    ap (λ (bytes : List ℕ). big_endian (take size (drop place bytes))) here
-    ∙ ap (λ (bytes : List ℕ). big_endian (take size bytes)) (drop_at front (bytes_of size n ++ after) place long)
+-- a number that is spelled at an offset
+pub number_at : (payload prefix after : List ℕ) (offset size n : ℕ) → n < 256 ^ size → length prefix ≡ offset → payload ≡ prefix ++ (bytes_of size n ++ after) → number_in payload offset size ≡ n
+number_at payload prefix after offset size n fits long here =
+    ap (λ (bytes : List ℕ). big_endian (take size (drop offset bytes))) here
+    ∙ ap (λ (bytes : List ℕ). big_endian (take size bytes)) (drop_at prefix (bytes_of size n ++ after) offset long)
     ∙ ap big_endian (take_at (bytes_of size n) after size (length-bytes_of size n))
     ∙ big_endian-bytes_of size n fits
 
--- a counted field that is spelled at a place
-pub record Stands (payload : List ℕ) (place size : ℕ) (text : List ℕ) : Type 0 where
-  pub count : number_in payload place size ≡ length text
-  pub bytes : text_in payload place size ≡ text
-  pub within : place + size + length text ≤ length payload
+-- a counted field that is spelled at an offset
+pub record Stands (payload : List ℕ) (offset size : ℕ) (text : List ℕ) : Type 0 where
+  pub count : number_in payload offset size ≡ length text
+  pub bytes : text_in payload offset size ≡ text
+  pub within : offset + size + length text ≤ length payload
 
-pub stands_at : (payload front text after : List ℕ) (place size : ℕ) → length text < 256 ^ size → length front ≡ place → payload ≡ front ++ (counted_text size text ++ after) → Stands payload place size text
-stands_at payload front text after place size fits long here =
-    let grouped = here ∙ ap (λ (rest : List ℕ). front ++ rest) (append_assoc (bytes_of size (length text)) text after) in
-    let count = number_at payload front (text ++ after) place size (length text) fits long grouped in
-    let split = grouped ∙ sym (append_assoc front (bytes_of size (length text)) (text ++ after)) in
-    let front_long = length-append front (bytes_of size (length text)) in
+pub stands_at : (payload prefix text after : List ℕ) (offset size : ℕ) → length text < 256 ^ size → length prefix ≡ offset → payload ≡ prefix ++ (counted_text size text ++ after) → Stands payload offset size text
+stands_at payload prefix text after offset size fits long here =
+    let grouped = here ∙ ap (λ (rest : List ℕ). prefix ++ rest) (append_assoc (bytes_of size (length text)) text after) in
+    let count = number_at payload prefix (text ++ after) offset size (length text) fits long grouped in
+    let split = grouped ∙ sym (append_assoc prefix (bytes_of size (length text)) (text ++ after)) in
+    let prefix_long = length-append prefix (bytes_of size (length text)) in
     let size_long = length-bytes_of size (length text) in
-    let rest : drop (place + size) payload ≡ text ++ after = ap (drop (place + size)) split ∙ drop_at (front ++ bytes_of size (length text)) (text ++ after) (place + size) (omega (arith, front_long, size_long, long)) in
-    let whole = ap length split ∙ length-append (front ++ bytes_of size (length text)) (text ++ after) in
+    let rest : drop (offset + size) payload ≡ text ++ after = ap (drop (offset + size)) split ∙ drop_at (prefix ++ bytes_of size (length text)) (text ++ after) (offset + size) (omega (arith, prefix_long, size_long, long)) in
+    let whole = ap length split ∙ length-append (prefix ++ bytes_of size (length text)) (text ++ after) in
     let tail = length-append text after in
     record {
       count = count;
-      bytes = ap (λ (bytes : List ℕ). take (number_in payload place size) bytes) rest ∙ ap (λ (n : ℕ). take n (text ++ after)) count ∙ take_at text after (length text) refl;
-      within = omega (arith, whole, tail, front_long, size_long, long);
+      bytes = ap (λ (bytes : List ℕ). take (number_in payload offset size) bytes) rest ∙ ap (λ (n : ℕ). take n (text ++ after)) count ∙ take_at text after (length text) refl;
+      within = omega (arith, whole, tail, prefix_long, size_long, long);
     }
 
 none_failed : (checks : List (Bool × RecordFault)) → AllPass checks → first_failed checks ≡ None
 none_failed [] all = refl
 none_failed (check ∷ checks) all = rw all.0 (none_failed checks all.1)
 
-counts_pass : (payload text : List ℕ) (place size least most : ℕ) → Stands payload place size text → least ≤ length text → length text ≤ most → first_failed (count_checks payload place size least most) ≡ None
-counts_pass payload text place size least most is low high =
-    none_failed (count_checks payload place size least most) (
-      le-leb (place + size) (length payload) (omega (arith, is.within)),
+counts_pass : (payload text : List ℕ) (offset size least most : ℕ) → Stands payload offset size text → least ≤ length text → length text ≤ most → first_failed (count_checks payload offset size least most) ≡ None
+counts_pass payload text offset size least most is low high =
+    none_failed (count_checks payload offset size least most) (
+      le-leb (offset + size) (length payload) (omega (arith, is.within)),
       (
-        are_both (nat_le least (number_in payload place size)) (nat_le (number_in payload place size) most)
-            (le-leb least (number_in payload place size) (omega (arith, is.count, low)))
-            (le-leb (number_in payload place size) most (omega (arith, is.count, high))),
+        are_both (nat_le least (number_in payload offset size)) (nat_le (number_in payload offset size) most)
+            (le-leb least (number_in payload offset size) (omega (arith, is.count, low)))
+            (le-leb (number_in payload offset size) most (omega (arith, is.count, high))),
         (
-          le-leb (place + size + number_in payload place size) (length payload) (omega (arith, is.within, is.count)),
+          le-leb (offset + size + number_in payload offset size) (length payload) (omega (arith, is.within, is.count)),
           tt,
         ),
       ),
@@ -77,31 +77,31 @@ both_none (Some fault) later one other = absurd cc
 one_check : (b : Bool) (fault : RecordFault) → b ≡ true → first_failed ((b, fault) ∷ []) ≡ None
 one_check b fault is = none_failed ((b, fault) ∷ []) (is, tt)
 
-name_passes : (payload name : List ℕ) (place : ℕ) → Stands payload place 1 name → IsName name → name_fault payload place ≡ None
-name_passes payload name place is limits =
-    let found = text_in payload place 1 in
-    let whole = le-leb (length name) (name_prefix name) (prefix_whole name limits.alphabet) in
-    let same : nat_le (length found) (name_prefix found) ≡ true = ap (λ (text : List ℕ). nat_le (length text) (name_prefix text)) is.bytes ∙ whole in
-    both_none (first_failed (count_checks payload place 1 1 most_name_bytes)) _
-    (counts_pass payload name place 1 1 most_name_bytes is limits.least limits.most)
-    (one_check (nat_le (length found) (name_prefix found)) (Name (place + 1 + name_prefix found)) same)
+name_passes : (payload name : List ℕ) (offset : ℕ) → Stands payload offset 1 name → IsName name → name_fault payload offset ≡ None
+name_passes payload name offset is limits =
+    let found = text_in payload offset 1 in
+    let whole = le-leb (length name) (name_prefix_length name) (prefix_whole name limits.alphabet) in
+    let same : nat_le (length found) (name_prefix_length found) ≡ true = ap (λ (text : List ℕ). nat_le (length text) (name_prefix_length text)) is.bytes ∙ whole in
+    both_none (first_failed (count_checks payload offset 1 1 most_name_bytes)) _
+    (counts_pass payload name offset 1 1 most_name_bytes is limits.least limits.most)
+    (one_check (nat_le (length found) (name_prefix_length found)) (Name (offset + 1 + name_prefix_length found)) same)
 
-text_passes : (payload text : List ℕ) (place size least most : ℕ) → Stands payload place size text → least ≤ length text → length text ≤ most → IsUtf8 text → text_fault payload place size least most ≡ None
-text_passes payload text place size least most is low high utf8 =
-    let found = text_in payload place size in
+text_passes : (payload text : List ℕ) (offset size least most : ℕ) → Stands payload offset size text → least ≤ length text → length text ≤ most → IsUtf8 text → text_fault payload offset size least most ≡ None
+text_passes payload text offset size least most is low high utf8 =
+    let found = text_in payload offset size in
     let same : is_utf8 found ≡ true = ap is_utf8 is.bytes ∙ are_utf8 text utf8 in
-    both_none (first_failed (count_checks payload place size least most)) _
-    (counts_pass payload text place size least most is low high)
-    (one_check (is_utf8 found) (Name (place + size + utf8_valid_len found)) same)
+    both_none (first_failed (count_checks payload offset size least most)) _
+    (counts_pass payload text offset size least most is low high)
+    (one_check (is_utf8 found) (Name (offset + size + utf8_valid_len found)) same)
 
--- what stands at the places of the spelling of a put
+-- what stands at the offsets of the spelling of a put
 record PutStands (payload cache key value : List ℕ) : Type 0 where
   pub long : length payload ≡ 9 + length cache + length key + length value
   pub count : number_in payload 0 1 ≡ 1
   pub tag : number_in payload 1 1 ≡ put_tag
   pub first : Stands payload 2 1 cache
-  pub second : Stands payload (key_place payload) 2 key
-  pub third : Stands payload (value_place payload) 4 value
+  pub second : Stands payload (key_offset payload) 2 key
+  pub third : Stands payload (value_offset payload) 4 value
 
 -- the parts of the spelling of a put, from the left
 put_parts : (payload cache key value : List ℕ) → payload ≡ group_text (Put cache key value ∷ [])
@@ -121,20 +121,20 @@ put_stands payload cache key value limits here =
     let x = counted8_text cache in
     let y = counted16_text key in
     let z = counted32_text value in
-    let front2 = bytes8 1 ++ bytes8 put_tag in
-    let front3 = front2 ++ x in
-    let front4 = front3 ++ y in
+    let prefix2 = bytes8 1 ++ bytes8 put_tag in
+    let prefix3 = prefix2 ++ x in
+    let prefix4 = prefix3 ++ y in
     let all1 = put_parts payload cache key value here in
-    let all2 : payload ≡ front2 ++ (x ++ (y ++ (z ++ []))) = all1 ∙ sym (append_assoc (bytes8 1) (bytes8 put_tag) (x ++ (y ++ (z ++ [])))) in
-    let all3 : payload ≡ front3 ++ (y ++ (z ++ [])) = all2 ∙ sym (append_assoc front2 x (y ++ (z ++ []))) in
-    let all4 : payload ≡ front4 ++ (z ++ []) = all3 ∙ sym (append_assoc front3 y (z ++ [])) in
+    let all2 : payload ≡ prefix2 ++ (x ++ (y ++ (z ++ []))) = all1 ∙ sym (append_assoc (bytes8 1) (bytes8 put_tag) (x ++ (y ++ (z ++ [])))) in
+    let all3 : payload ≡ prefix3 ++ (y ++ (z ++ [])) = all2 ∙ sym (append_assoc prefix2 x (y ++ (z ++ []))) in
+    let all4 : payload ≡ prefix4 ++ (z ++ []) = all3 ∙ sym (append_assoc prefix3 y (z ++ [])) in
     let one = length-bytes_of 1 1 in
-    let long2 : length front2 ≡ 2 = omega (arith, length-append (bytes8 1) (bytes8 put_tag), one, length-bytes_of 1 put_tag) in
-    let long3 : length front3 ≡ 3 + length cache = omega (arith, length-append front2 x, long2, length-counted_text 1 cache) in
-    let long4 : length front4 ≡ 5 + length cache + length key = omega (arith, length-append front3 y, long3, length-counted_text 2 key) in
-    let is_cache = stands_at payload front2 cache (y ++ (z ++ [])) 2 1 (omega (arith, limits.0.most)) long2 all2 in
-    let is_key = stands_at payload front3 key (z ++ []) (key_place payload) 2 (omega (arith, limits.1.most)) (omega (arith, long3, is_cache.count)) all3 in
-    let is_value = stands_at payload front4 value [] (value_place payload) 4 (omega (arith, limits.2.most)) (omega (arith, long4, is_cache.count, is_key.count)) all4 in
+    let long2 : length prefix2 ≡ 2 = omega (arith, length-append (bytes8 1) (bytes8 put_tag), one, length-bytes_of 1 put_tag) in
+    let long3 : length prefix3 ≡ 3 + length cache = omega (arith, length-append prefix2 x, long2, length-counted_text 1 cache) in
+    let long4 : length prefix4 ≡ 5 + length cache + length key = omega (arith, length-append prefix3 y, long3, length-counted_text 2 key) in
+    let is_cache = stands_at payload prefix2 cache (y ++ (z ++ [])) 2 1 (omega (arith, limits.0.most)) long2 all2 in
+    let is_key = stands_at payload prefix3 key (z ++ []) (key_offset payload) 2 (omega (arith, limits.1.most)) (omega (arith, long3, is_cache.count)) all3 in
+    let is_value = stands_at payload prefix4 value [] (value_offset payload) 4 (omega (arith, limits.2.most)) (omega (arith, long4, is_cache.count, is_key.count)) all4 in
     record {
       long = ap length here ∙ length-group_of_put cache key value;
       count = number_at payload [] (bytes8 put_tag ++ (x ++ (y ++ (z ++ [])))) 0 1 1 (omega arith) refl all1;
@@ -149,8 +149,8 @@ put_passes : (payload cache key value : List ℕ) → IsMutation (Put cache key 
 put_passes payload cache key value limits is =
     let head = head_fault payload in
     let name_part = name_fault payload 2 in
-    let key_part = text_fault payload (key_place payload) 2 1 most_key_bytes in
-    let value_part = text_fault payload (value_place payload) 4 0 most_value_bytes in
+    let key_part = text_fault payload (key_offset payload) 2 1 most_key_bytes in
+    let value_part = text_fault payload (value_offset payload) 4 0 most_value_bytes in
     let within : nat_le (length payload) (put_end payload) ≡ true = le-leb (length payload) (put_end payload) (omega (arith, is.long, is.first.count, is.second.count, is.third.count)) in
     let head_passes : head_fault payload ≡ None = none_failed (head_checks payload) (
       le-leb 1 (length payload) (omega (arith, is.long)),
@@ -166,8 +166,8 @@ put_passes payload cache key value limits is =
       ),
     ) in
     let name_is = name_passes payload cache 2 is.first limits.0 in
-    let key_is = text_passes payload key (key_place payload) 2 1 most_key_bytes is.second limits.1.least limits.1.most limits.1.utf8 in
-    let value_is = text_passes payload value (value_place payload) 4 0 most_value_bytes is.third (omega arith) limits.2.most limits.2.utf8 in
+    let key_is = text_passes payload key (key_offset payload) 2 1 most_key_bytes is.second limits.1.least limits.1.most limits.1.utf8 in
+    let value_is = text_passes payload value (value_offset payload) 4 0 most_value_bytes is.third (omega arith) limits.2.most limits.2.utf8 in
     both_none (((head before name_part) before key_part) before value_part) _
     (both_none ((head before name_part) before key_part) value_part
     (both_none (head before name_part) key_part (both_none head name_part head_passes name_is) key_is) value_is)

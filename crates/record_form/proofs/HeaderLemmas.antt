@@ -1,26 +1,16 @@
 -- A header is spelled by its numbers, and its numbers are those that are spelled.
-use Rattle.std.proofs.Common.{◌≡◌, ℕ, ◌+◌, ◌^◌, ◌<◌, ◌≤◌, Bool, true, false, cond, ◌&&◌, List, [], ◌∷◌, ◌++◌, length, take, drop, refl, sym, ap, ◌∙◌, arith, inl, inr, Result, Ok, Err, IsOk, IfOk, Some}
+use Rattle.std.proofs.Common.{◌≡◌, ℕ, ◌+◌, ◌^◌, ◌<◌, ◌≤◌, Bool, true, false, cond, ◌&&◌, List, [], ◌∷◌, ◌++◌, length, take, drop, refl, sym, ap, ◌∙◌, arith, inl, inr, Ok, IfOk, Option, None, Some}
 use Rattle.std.specs.Prelude.{◌==◌}
-use Rattle.std.specs.Result.{result_unwrap_or}
 use Rattle.std.proofs.Math.Nat.{pow-le-pow_right}
 use Rattle.std.proofs.lemmas.Bool.{cases_lt, eqb-true, ltb-true, leb-true, lt-ltb, le-leb}
-use Rattle.std.proofs.lemmas.List.{take_at, take-append-drop, take-append-le, drop-take, length-take-le, take_all, get_or-take, get_or_past, get_or-drop, length-take, length-drop}
+use Rattle.std.proofs.lemmas.List.{take-append-drop, take-append-le, drop-take, length-take-le, take_all, get_or-take, get_or_past, get_or-drop, length-take, length-drop}
 use Rattle.byte_fields.specs.Numbers as numbers
-use Rattle.byte_fields.specs.Numbers.{big_endian, bytes_of, bytes16, bytes32, bytes64}
-use Rattle.byte_fields.specs.Reading.{Reading, rest_of, Passes}
-use Rattle.byte_fields.specs.declared.fault.Short.{Short}
-use Rattle.byte_fields.proofs.NumbersLemmas.{AreBytes, big_endian-bytes_of, bytes_of-big_endian, length-bytes_of, big_endian-lt}
+use Rattle.byte_fields.specs.Numbers.{big_endian, bytes_of, bytes16, bytes32, bytes64, number_in}
+use Rattle.byte_fields.proofs.NumbersLemmas.{AreBytes, big_endian-bytes_of, bytes_of-big_endian, big_endian-lt}
 use Rattle.record_form.specs.declared.header.Header.{Header}
 use Rattle.record_form.specs.declared.fault.RecordFault.{RecordFault}
 use Rattle.record_form.specs.HeaderText.{store_magic, store_format, IsHeader, header_text}
-use Rattle.record_form.specs.HeaderFault.{number_in, header_in, header_checks, first_failed, header_fault, unless}
-
--- a number that was read is the one that its bytes spell
-pub number_found : (size : ℕ) (before after : Reading) (r : Result ℕ Short) → IsOk r → IfOk r (λ n. (n < 256 ^ size) × Passes before after (bytes_of size n))
-    → result_unwrap_or r 0 ≡ big_endian (take size (rest_of before))
-number_found size before after (Ok n) ok found =
-    sym (ap (λ (bytes : List ℕ). big_endian (take size bytes)) found.1.passed ∙ ap big_endian (take_at (bytes_of size n) (rest_of after) size (length-bytes_of size n)) ∙ big_endian-bytes_of size n found.0)
-number_found size before after (Err e) ok found = absurd cc
+use Rattle.record_form.specs.HeaderFault.{header_in, header_checks, first_failed, header_fault, unless}
 
 AreBytes-take : (n : ℕ) (bytes : List ℕ) → AreBytes bytes → AreBytes (take n bytes)
 AreBytes-take n bytes are i =
@@ -32,29 +22,29 @@ AreBytes-take n bytes are i =
 AreBytes-drop : (n : ℕ) (bytes : List ℕ) → AreBytes bytes → AreBytes (drop n bytes)
 AreBytes-drop n bytes are i = rw get_or-drop (are (n + i))
 
-take_front : (text : List ℕ) (place size : ℕ) → take place (take (place + size) text) ≡ take place text
-take_front text place size =
-    elim (cases_lt (length text) (place + size)) [
-      | inl past ↦ ap (take place) (take_all (place + size) text (omega arith))
+take_prefix : (text : List ℕ) (offset size : ℕ) → take offset (take (offset + size) text) ≡ take offset text
+take_prefix text offset size =
+    elim (cases_lt (length text) (offset + size)) [
+      | inl past ↦ ap (take offset) (take_all (offset + size) text (omega arith))
       | inr within ↦
-          sym (take-append-le place (take (place + size) text) (drop (place + size) text) (omega (arith, length-take-le (place + size) text within)))
-          ∙ ap (take place) (take-append-drop (place + size) text)
+          sym (take-append-le offset (take (offset + size) text) (drop (offset + size) text) (omega (arith, length-take-le (offset + size) text within)))
+          ∙ ap (take offset) (take-append-drop (offset + size) text)
     ]
 
-pub take_on : (text : List ℕ) (place size : ℕ) → take (place + size) text ≡ take place text ++ take size (drop place text)
-take_on text place size =
-    let whole = sym (take-append-drop place (take (place + size) text)) in
-    let front : take place (take (place + size) text) ≡ take place text = take_front text place size in
-    whole ∙ ap (λ (first : List ℕ). first ++ drop place (take (place + size) text)) front ∙ ap (λ (last : List ℕ). take place text ++ last) (drop-take place size text)
+pub take_on : (text : List ℕ) (offset size : ℕ) → take (offset + size) text ≡ take offset text ++ take size (drop offset text)
+take_on text offset size =
+    let whole = sym (take-append-drop offset (take (offset + size) text)) in
+    let prefix : take offset (take (offset + size) text) ≡ take offset text = take_prefix text offset size in
+    whole ∙ ap (λ (first : List ℕ). first ++ drop offset (take (offset + size) text)) prefix ∙ ap (λ (last : List ℕ). take offset text ++ last) (drop-take offset size text)
 
 -- the next field of a text
-pub spelled_on : (text front : List ℕ) (place size n : ℕ) → AreBytes text → place + size ≤ length text → front ≡ take place text → number_in text place size ≡ n → front ++ bytes_of size n ≡ take (place + size) text
-spelled_on text front place size n are within so_far is =
-    let bytes = take size (drop place text) in
-    let long : length bytes ≡ size = length-take-le size (drop place text) (omega (arith, length-drop place text)) in
-    let spelled : bytes_of size (big_endian bytes) ≡ bytes = ap (λ (k : ℕ). bytes_of k (big_endian bytes)) (sym long) ∙ bytes_of-big_endian bytes (AreBytes-take size (drop place text) (AreBytes-drop place text are)) in
+pub spelled_on : (text prefix : List ℕ) (offset size n : ℕ) → AreBytes text → offset + size ≤ length text → prefix ≡ take offset text → number_in text offset size ≡ n → prefix ++ bytes_of size n ≡ take (offset + size) text
+spelled_on text prefix offset size n are within so_far is =
+    let bytes = take size (drop offset text) in
+    let long : length bytes ≡ size = length-take-le size (drop offset text) (omega (arith, length-drop offset text)) in
+    let spelled : bytes_of size (big_endian bytes) ≡ bytes = ap (λ (k : ℕ). bytes_of k (big_endian bytes)) (sym long) ∙ bytes_of-big_endian bytes (AreBytes-take size (drop offset text) (AreBytes-drop offset text are)) in
     let number : bytes_of size n ≡ bytes = ap (bytes_of size) (sym is) ∙ spelled in
-    ap (λ (first : List ℕ). first ++ bytes_of size n) so_far ∙ ap (λ (last : List ℕ). take place text ++ last) number ∙ sym (take_on text place size)
+    ap (λ (first : List ℕ). first ++ bytes_of size n) so_far ∙ ap (λ (last : List ℕ). take offset text ++ last) number ∙ sym (take_on text offset size)
 
 header_spelled : (text : List ℕ) → AreBytes text → length text ≡ 40 → number_in text 0 4 ≡ store_magic → number_in text 4 2 ≡ store_format → number_in text 28 8 ≡ 0 → number_in text 36 4 ≡ 0 → text ≡ header_text (header_in text)
 header_spelled text are long magic format zeros others =
@@ -94,11 +84,11 @@ both_true false b is = absurd cc
 pub are_both : (a b : Bool) → a ≡ true → b ≡ true → (a && b) ≡ true
 are_both a b one other = rw one other
 
-below16 : (text : List ℕ) (place : ℕ) → AreBytes text → number_in text place 2 < 2 ^ 16
-below16 text place are =
-    let bytes = take 2 (drop place text) in
-    let below = big_endian-lt bytes (AreBytes-take 2 (drop place text) (AreBytes-drop place text are)) in
-    let bound : 256 ^ length bytes ≤ 256 ^ 2 = pow-le-pow_right {n = 256} (omega arith) {i = length bytes} {j = 2} (omega (arith, length-take 2 (drop place text))) in
+below16 : (text : List ℕ) (offset : ℕ) → AreBytes text → number_in text offset 2 < 2 ^ 16
+below16 text offset are =
+    let bytes = take 2 (drop offset text) in
+    let below = big_endian-lt bytes (AreBytes-take 2 (drop offset text) (AreBytes-drop offset text are)) in
+    let bound : 256 ^ length bytes ≤ 256 ^ 2 = pow-le-pow_right {n = 256} (omega arith) {i = length bytes} {j = 2} (omega (arith, length-take 2 (drop offset text))) in
     omega arith
 
 -- what is decoded is spelled so
@@ -121,8 +111,8 @@ header_found text are long =
       header_spelled text are long (eqb-true _ _ all.0) (eqb-true _ _ all.1.0) (eqb-true _ _ zeros.0) (eqb-true _ _ zeros.1),
     ))
 
-pub number_again : (text : List ℕ) (place size : ℕ) (all : List ℕ) (n : ℕ) → n < 256 ^ size → text ≡ all → take size (drop place all) ≡ bytes_of size n → number_in text place size ≡ n
-number_again text place size all n fits here is = ap (λ (bytes : List ℕ). big_endian (take size (drop place bytes))) here ∙ ap big_endian is ∙ big_endian-bytes_of size n fits
+pub number_again : (text : List ℕ) (offset size : ℕ) (all : List ℕ) (n : ℕ) → n < 256 ^ size → text ≡ all → take size (drop offset all) ≡ bytes_of size n → number_in text offset size ≡ n
+number_again text offset size all n fits here is = ap (λ (bytes : List ℕ). big_endian (take size (drop offset bytes))) here ∙ ap big_endian is ∙ big_endian-bytes_of size n fits
 
 -- what is spelled so is decoded
 pub header_again : (header : Header) (text : List ℕ) → IsHeader header → text ≡ header_text header → unless (header_fault text) (header_in text) ≡ Ok header
@@ -161,3 +151,22 @@ header_again header text is here =
       ),
     ) in
     ap (λ (h : Header). unless (first_failed (header_checks text h)) h) same ∙ all_pass (header_checks text header) header checks
+
+-- where there is no fault
+unless_ok : (fault : Option RecordFault) (value wanted : Header) → unless fault value ≡ Ok wanted → (fault ≡ None) × (value ≡ wanted)
+unless_ok None value wanted is = (refl, cc)
+unless_ok (Some fault) value wanted is = absurd cc
+
+again : (header : Header) → IsHeader header → (header_fault (header_text header) ≡ None) × (header_in (header_text header) ≡ header)
+again header is = unless_ok (header_fault (header_text header)) (header_in (header_text header)) header (header_again header (header_text header) is refl)
+
+-- a header's bytes have no fault, and spell its numbers
+pub header_fault-header_text : (header : Header) → IsHeader header → header_fault (header_text header) ≡ None
+header_fault-header_text header is = (again header is).0
+
+pub header_in-header_text : (header : Header) → IsHeader header → header_in (header_text header) ≡ header
+header_in-header_text header is = (again header is).1
+
+-- so a header has one spelling
+pub header_text-injective : (a b : Header) → IsHeader a → IsHeader b → header_text a ≡ header_text b → a ≡ b
+header_text-injective a b is also same = sym (header_in-header_text a is) ∙ ap header_in same ∙ header_in-header_text b also

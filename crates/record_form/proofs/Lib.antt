@@ -4,4 +4,3 @@ pub mod ReadingLemmas
 pub mod GroupSpelling
 pub mod GroupFound
 pub mod GroupLaws
-pub mod BytesLemmas

@@ -9,34 +9,34 @@ use Rattle.std.specs.Str.Lossy.{utf8_valid_len}
 use Rattle.record_form.specs.declared.fault.RecordFault.{RecordFault}
 use Rattle.record_form.specs.declared.fault.RecordFault.TheVariants.{Name}
 use Rattle.record_form.specs.GroupFault as group_fault
-use Rattle.record_form.specs.GroupFault.{name_prefix}
+use Rattle.record_form.specs.GroupFault.{name_prefix_length}
 
-pub prefix_more : (bytes : List ℕ) (i : ℕ) → i < length bytes → is_name_byte (get_or bytes i 0) ≡ true → name_prefix (drop i bytes) ≡ suc (name_prefix (drop (i + 1) bytes))
-unfolding group_fault.name_prefix
-prefix_more bytes i here is = ap name_prefix (drop_more bytes i 0 here) ∙ ap (λ (b : Bool). cond b (suc (name_prefix (drop (i + 1) bytes))) 0) is
+pub prefix_more : (bytes : List ℕ) (i : ℕ) → i < length bytes → is_name_byte (get_or bytes i 0) ≡ true → name_prefix_length (drop i bytes) ≡ suc (name_prefix_length (drop (i + 1) bytes))
+unfolding group_fault.name_prefix_length
+prefix_more bytes i here is = ap name_prefix_length (drop_more bytes i 0 here) ∙ ap (λ (b : Bool). cond b (suc (name_prefix_length (drop (i + 1) bytes))) 0) is
 
-pub prefix_stops : (bytes : List ℕ) (i : ℕ) → i < length bytes → is_name_byte (get_or bytes i 0) ≡ false → name_prefix (drop i bytes) ≡ 0
-unfolding group_fault.name_prefix
-prefix_stops bytes i here is = ap name_prefix (drop_more bytes i 0 here) ∙ ap (λ (b : Bool). cond b (suc (name_prefix (drop (i + 1) bytes))) 0) is
+pub prefix_stops : (bytes : List ℕ) (i : ℕ) → i < length bytes → is_name_byte (get_or bytes i 0) ≡ false → name_prefix_length (drop i bytes) ≡ 0
+unfolding group_fault.name_prefix_length
+prefix_stops bytes i here is = ap name_prefix_length (drop_more bytes i 0 here) ∙ ap (λ (b : Bool). cond b (suc (name_prefix_length (drop (i + 1) bytes))) 0) is
 
-pub prefix_ends : (bytes : List ℕ) (i : ℕ) → length bytes ≤ i → name_prefix (drop i bytes) ≡ 0
-unfolding group_fault.name_prefix
-prefix_ends bytes i past = ap name_prefix (drop_all i bytes past)
+pub prefix_ends : (bytes : List ℕ) (i : ℕ) → length bytes ≤ i → name_prefix_length (drop i bytes) ≡ 0
+unfolding group_fault.name_prefix_length
+prefix_ends bytes i past = ap name_prefix_length (drop_all i bytes past)
 
 holds_first : (b : Bool) (rest i : ℕ) (P : Type 0) → i < cond b (suc rest) 0 → ((b ≡ true) → i < suc rest → P) → P
 holds_first true rest i P below law = law refl below
 holds_first false rest i P below law = absurd (omega arith)
 
-pub prefix_holds : (bytes : List ℕ) (i d : ℕ) → i < name_prefix bytes → is_name_byte (get_or bytes i d) ≡ true
-unfolding group_fault.name_prefix
+pub prefix_holds : (bytes : List ℕ) (i d : ℕ) → i < name_prefix_length bytes → is_name_byte (get_or bytes i d) ≡ true
+unfolding group_fault.name_prefix_length
 prefix_holds [] i d below = absurd (omega arith)
-prefix_holds (byte ∷ bytes) zero d below = holds_first (is_name_byte byte) (name_prefix bytes) 0 (is_name_byte byte ≡ true) below (λ is within. is)
-prefix_holds (byte ∷ bytes) (suc i) d below = holds_first (is_name_byte byte) (name_prefix bytes) (suc i) (is_name_byte (get_or bytes i d) ≡ true) below (λ is within. prefix_holds bytes i d (omega arith))
+prefix_holds (byte ∷ bytes) zero d below = holds_first (is_name_byte byte) (name_prefix_length bytes) 0 (is_name_byte byte ≡ true) below (λ is within. is)
+prefix_holds (byte ∷ bytes) (suc i) d below = holds_first (is_name_byte byte) (name_prefix_length bytes) (suc i) (is_name_byte (get_or bytes i d) ≡ true) below (λ is within. prefix_holds bytes i d (omega arith))
 
 name_byte_below : (byte : ℕ) → is_name_byte byte ≡ true → byte < 128
 name_byte_below byte is = grind (arith, is)
 
-pub name_is_utf8 : (bytes : List ℕ) → length bytes ≤ name_prefix bytes → IsUtf8 bytes
+pub name_is_utf8 : (bytes : List ℕ) → length bytes ≤ name_prefix_length bytes → IsUtf8 bytes
 name_is_utf8 bytes whole =
     IsUtf8-from_ascii bytes (λ i.
     elim (cases_lt i (length bytes)) [
@@ -44,12 +44,12 @@ name_is_utf8 bytes whole =
       | inr past ↦ rw (get_or_past bytes i 0 past) (omega arith)
     ])
 
-pub name_alphabet : (bytes : List ℕ) → length bytes ≤ name_prefix bytes → All IsNameByte bytes
+pub name_alphabet : (bytes : List ℕ) → length bytes ≤ name_prefix_length bytes → All IsNameByte bytes
 name_alphabet bytes whole = λ i d within. prefix_holds bytes i d (omega arith)
 
--- bytes of the alphabet are all at the front
-pub prefix_whole : (bytes : List ℕ) → All IsNameByte bytes → length bytes ≤ name_prefix bytes
-unfolding group_fault.name_prefix
+-- bytes of the alphabet are all at the beginning
+pub prefix_whole : (bytes : List ℕ) → All IsNameByte bytes → length bytes ≤ name_prefix_length bytes
+unfolding group_fault.name_prefix_length
 prefix_whole [] all = omega arith
 prefix_whole (byte ∷ bytes) all =
     let rest = prefix_whole bytes (λ i d within. all (suc i) d (omega arith)) in
@@ -67,11 +67,11 @@ pub are_utf8 : (bytes : List ℕ) → IsUtf8 bytes → is_utf8 bytes ≡ true
 are_utf8 bytes is = is_utf8-from_IsUtf8 bytes is
 
 -- bytes of the alphabet of names are read as UTF-8
-pub name_read : (r : Result (Bor (List ℕ)) RecordFault) (bytes : List ℕ) (place : ℕ) → length bytes ≤ name_prefix bytes
-    → MatchResult r (λ text. (text.now ≡ bytes) × (is_utf8 bytes ≡ true)) (λ fault. (is_utf8 bytes ≡ false) × (fault ≡ Name (place + utf8_valid_len bytes)))
-    → MatchResult r (λ text. (text.now ≡ bytes) × (nat_le (length bytes) (name_prefix bytes) ≡ true)) (λ fault. (nat_le (length bytes) (name_prefix bytes) ≡ false) × (fault ≡ Name (place + name_prefix bytes)))
-name_read (Ok text) bytes place whole read = (read.0, le-leb (length bytes) (name_prefix bytes) whole)
-name_read (Err fault) bytes place whole read =
+pub name_read : (r : Result (Bor (List ℕ)) RecordFault) (bytes : List ℕ) (offset : ℕ) → length bytes ≤ name_prefix_length bytes
+    → MatchResult r (λ text. (text.now ≡ bytes) × (is_utf8 bytes ≡ true)) (λ fault. (is_utf8 bytes ≡ false) × (fault ≡ Name (offset + utf8_valid_len bytes)))
+    → MatchResult r (λ text. (text.now ≡ bytes) × (nat_le (length bytes) (name_prefix_length bytes) ≡ true)) (λ fault. (nat_le (length bytes) (name_prefix_length bytes) ≡ false) × (fault ≡ Name (offset + name_prefix_length bytes)))
+name_read (Ok text) bytes offset whole read = (read.0, le-leb (length bytes) (name_prefix_length bytes) whole)
+name_read (Err fault) bytes offset whole read =
     let is = are_utf8 bytes (name_is_utf8 bytes whole) in
     let never = read.0 in
     absurd cc

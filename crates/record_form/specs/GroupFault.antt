@@ -5,42 +5,43 @@ use Rattle.std.specs.Str.Lossy.{utf8_valid_len}
 use Rattle.cache_key.specs.Names.{is_name_byte, most_name_bytes, most_key_bytes, most_value_bytes}
 use Rattle.cache_key.specs.declared.request.Mutation.{Mutation}
 use Rattle.cache_key.specs.declared.request.Mutation.TheVariants.{Put}
+use Rattle.byte_fields.specs.Numbers.{number_in}
 use Rattle.record_form.specs.declared.fault.RecordFault.{RecordFault}
 use Rattle.record_form.specs.declared.fault.RecordFault.TheVariants.{Short, Tag, Range, Name}
-use Rattle.record_form.specs.GroupText.{put_tag}
-use Rattle.record_form.specs.HeaderFault.{number_in, first_failed}
+use Rattle.record_form.specs.GroupText.{put_tag, most_mutations}
+use Rattle.record_form.specs.HeaderFault.{first_failed}
 
--- the bytes behind a count of so many bytes at a place
+-- the bytes after a count of so many bytes at an offset
 abbrev pub text_in : List ℕ → ℕ → ℕ → List ℕ
-text_in payload place size = take (number_in payload place size) (drop (place + size) payload)
+text_in payload offset size = take (number_in payload offset size) (drop (offset + size) payload)
 
--- where the field of a put's key begins, behind the cache's
-abbrev pub key_place : List ℕ → ℕ
-key_place payload = 3 + number_in payload 2 1
+-- where the field of a put's key begins, after the cache's
+abbrev pub key_offset : List ℕ → ℕ
+key_offset payload = 3 + number_in payload 2 1
 
 -- where that of its value begins
-abbrev pub value_place : List ℕ → ℕ
-value_place payload = key_place payload + 2 + number_in payload (key_place payload) 2
+abbrev pub value_offset : List ℕ → ℕ
+value_offset payload = key_offset payload + 2 + number_in payload (key_offset payload) 2
 
 -- where a put ends
 abbrev pub put_end : List ℕ → ℕ
-put_end payload = value_place payload + 4 + number_in payload (value_place payload) 4
+put_end payload = value_offset payload + 4 + number_in payload (value_offset payload) 4
 
 -- the mutation of the bytes, whatever they are
 abbrev pub mutation_in : List ℕ → Mutation
-mutation_in payload = Put (text_in payload 2 1) (text_in payload (key_place payload) 2) (text_in payload (value_place payload) 4)
+mutation_in payload = Put (text_in payload 2 1) (text_in payload (key_offset payload) 2) (text_in payload (value_offset payload) 4)
 
--- how many bytes of the alphabet of names stand at the front
-unfoldable pub name_prefix : List ℕ → ℕ
-name_prefix [] = 0
-name_prefix (byte ∷ bytes) = if is_name_byte byte then suc (name_prefix bytes) else 0
+-- how many bytes of the alphabet of names stand at the beginning
+unfoldable pub name_prefix_length : List ℕ → ℕ
+name_prefix_length [] = 0
+name_prefix_length (byte ∷ bytes) = if is_name_byte byte then suc (name_prefix_length bytes) else 0
 
--- what must hold of a count of so many bytes at a place, and of the bytes behind it
+-- what must hold of a count of so many bytes at an offset, and of the bytes after it
 abbrev pub count_checks : List ℕ → ℕ → ℕ → ℕ → ℕ → List (Bool × RecordFault)
-count_checks payload place size least most =
-    (nat_le (place + size) (length payload), Short (length payload))
-    ∷ (nat_le least (number_in payload place size) && nat_le (number_in payload place size) most, Range place)
-    ∷ (nat_le (place + size + number_in payload place size) (length payload), Short (length payload))
+count_checks payload offset size least most =
+    (nat_le (offset + size) (length payload), Short (length payload))
+    ∷ (nat_le least (number_in payload offset size) && nat_le (number_in payload offset size) most, Range offset)
+    ∷ (nat_le (offset + size + number_in payload offset size) (length payload), Short (length payload))
     ∷ []
 
 -- the first fault of two parts that follow one another
@@ -51,23 +52,23 @@ None before later = later
 
 -- the first fault of the field of a name
 abbrev pub name_fault : List ℕ → ℕ → Option RecordFault
-name_fault payload place =
-    let name = text_in payload place 1 in
-    first_failed (count_checks payload place 1 1 most_name_bytes)
-    before first_failed ((nat_le (length name) (name_prefix name), Name (place + 1 + name_prefix name)) ∷ [])
+name_fault payload offset =
+    let name = text_in payload offset 1 in
+    first_failed (count_checks payload offset 1 1 most_name_bytes)
+    before first_failed ((nat_le (length name) (name_prefix_length name), Name (offset + 1 + name_prefix_length name)) ∷ [])
 
 -- the first fault of the field of a text in UTF-8, which is judged once all its bytes are there
 abbrev pub text_fault : List ℕ → ℕ → ℕ → ℕ → ℕ → Option RecordFault
-text_fault payload place size least most =
-    let text = text_in payload place size in
-    first_failed (count_checks payload place size least most)
-    before first_failed ((is_utf8 text, Name (place + size + utf8_valid_len text)) ∷ [])
+text_fault payload offset size least most =
+    let text = text_in payload offset size in
+    first_failed (count_checks payload offset size least most)
+    before first_failed ((is_utf8 text, Name (offset + size + utf8_valid_len text)) ∷ [])
 
 -- what must hold of the count and the tag
 abbrev pub head_checks : List ℕ → List (Bool × RecordFault)
 head_checks payload =
     (nat_le 1 (length payload), Short 0)
-    ∷ (number_in payload 0 1 == 1, Range 0)
+    ∷ (number_in payload 0 1 == most_mutations, Range 0)
     ∷ (nat_le 2 (length payload), Short 1)
     ∷ (number_in payload 1 1 == put_tag, Tag 1)
     ∷ []
@@ -81,6 +82,6 @@ abbrev pub group_fault : List ℕ → Option RecordFault
 group_fault payload =
     head_fault payload
     before name_fault payload 2
-    before text_fault payload (key_place payload) 2 1 most_key_bytes
-    before text_fault payload (value_place payload) 4 0 most_value_bytes
+    before text_fault payload (key_offset payload) 2 1 most_key_bytes
+    before text_fault payload (value_offset payload) 4 0 most_value_bytes
     before first_failed ((nat_le (length payload) (put_end payload), Range (put_end payload)) ∷ [])

@@ -5,7 +5,7 @@ use Rattle.byte_fields.specs.Numbers.{bytes8}
 use Rattle.byte_fields.specs.Counted.{counted8_text, counted16_text, counted32_text}
 use Rattle.cache_key.specs.declared.request.Mutation.{Mutation}
 use Rattle.cache_key.specs.declared.request.Mutation.TheVariants.{Put}
-use Rattle.cache_key.specs.Names.{IsName, IsKey, IsValue}
+use Rattle.cache_key.specs.Names.{IsName, IsKey, IsValue, most_name_bytes, most_key_bytes, most_value_bytes}
 
 -- the most mutations of a group so far
 abbrev pub most_mutations : ℕ
@@ -25,7 +25,7 @@ pub record IsGroup (mutations : List Mutation) : Type 0 where
 abbrev pub put_tag : ℕ
 put_tag = 1
 
--- a tag, and the texts behind their counts
+-- a tag, and the texts after their counts
 abbrev pub mutation_text : Mutation → List ℕ
 mutation_text (Put cache key value) = bytes8 put_tag ++ counted8_text cache ++ counted16_text key ++ counted32_text value
 
@@ -33,19 +33,27 @@ mutation_text (Put cache key value) = bytes8 put_tag ++ counted8_text cache ++ c
 abbrev pub group_text : List Mutation → List ℕ
 group_text mutations = bytes8 (length mutations) ++ flat_map mutation_text mutations
 
--- the most bytes of a group: the count, and a put whose texts have the most
+-- the most bytes of a group: the count, the tag, the counts of three texts, and the texts where they have the most
 abbrev pub most_group_bytes : ℕ
-most_group_bytes = 66633
+most_group_bytes = 9 + most_name_bytes + most_key_bytes + most_value_bytes
+
+-- the bytes of a record before its payload: the gate, and the length in four bytes
+abbrev pub record_head : ℕ
+record_head = 5
+
+-- a closed gate, at which no record begins; any other byte is an open gate
+abbrev pub closed_gate : ℕ
+closed_gate = 0
 
 -- the text is that of the group
 pub record IsGroupText (text : List ℕ) (mutations : List Mutation) : Type 0 where
   pub group : IsGroup mutations
   pub spelled : text ≡ group_text mutations
 
--- behind the open gate of a group's record: the length of the payload, the payload, and a closed gate
+-- after the open gate of a group's record: the length of the payload, the payload, and a closed gate
 abbrev pub tail_text : List Mutation → List ℕ
-tail_text mutations = counted32_text (group_text mutations) ++ bytes8 0
+tail_text mutations = counted32_text (group_text mutations) ++ bytes8 closed_gate
 
 -- what the record of this mutation alone takes: a gate, the length, the count, and the mutation
 abbrev pub growth_of : Mutation → ℕ
-growth_of mutation = 6 + length (mutation_text mutation)
+growth_of mutation = record_head + 1 + length (mutation_text mutation)

@@ -1,8 +1,21 @@
+//! A group of mutations, and the bytes that frame it.
 ghost use Rattle.std.specs.Prelude.{◌≡◌, [], ◌∷◌, Ok};
 
 use cache_key::Mutation;
 use std::alloc::AllocError;
 use std::marker::Model;
+
+/// The tag of a put.
+pub(crate) const PUT_TAG: u8 = 1;
+
+/// How many mutations a group has so far.
+pub(crate) const MUTATION_COUNT: u8 = 1;
+
+/// The bytes of a record before its payload: the gate, and the length in four bytes.
+pub const RECORD_HEAD: usize = 5;
+
+/// A closed gate: no record begins at it. Any other byte is an open one.
+pub const CLOSED_GATE: u8 = 0;
 
 /// Mutations of one partition that are kept together or not at all.
 #[derive(Debug, Drop)]

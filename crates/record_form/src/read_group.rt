@@ -10,14 +10,11 @@ ghost use Rattle.record_form.specs.HeaderFault.{first_failed, unless};
 ghost use Rattle.record_form.specs.GroupFault.{mutation_in, head_fault, group_fault};
 
 use crate::fault::RecordFault;
-use crate::group::Group;
-use crate::numbers::u8_in;
+use crate::group::{Group, MUTATION_COUNT, PUT_TAG};
 use crate::read_text::{key_at, name_at, value_at};
+use byte_fields::u8_at;
 use cache_key::{CacheName, Key, Mutation, Value};
 use std::alloc::Global;
-
-/// The tag of a put.
-const PUT_TAG: u8 = 1;
 
 /// The texts of a put.
 #[derive(Clone, Copy)]
@@ -87,13 +84,13 @@ fn check_head(payload: &[u8]) -> Result<(), RecordFault>
     if payload.is_empty() {
         return Err(RecordFault::Short(0));
     }
-    if u8_in(payload, 0) != 1 {
+    if u8_at(payload, 0) != MUTATION_COUNT {
         return Err(RecordFault::Range(0));
     }
     if payload.len() < 2 {
         return Err(RecordFault::Short(1));
     }
-    if u8_in(payload, 1) != PUT_TAG {
+    if u8_at(payload, 1) != PUT_TAG {
         return Err(RecordFault::Tag(1));
     }
     Ok(())

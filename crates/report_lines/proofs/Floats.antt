@@ -1,6 +1,8 @@
 -- No answer and no fault has a float.
 use Rattle.std.proofs.Common.{◌≡◌, List, [], ◌∷◌, false, Some, None, refl}
 use Rattle.serde_json.specs.Written.{has_float, items_have_float, members_have_float}
+use Rattle.cache_key.specs.declared.request.Reply.{Reply}
+use Rattle.cache_key.specs.declared.request.Reply.TheVariants as replies
 use Rattle.cache_model.specs.Caches.{Pairs, Caches}
 use Rattle.script_lines.specs.declared.answer.Answer.{Answer}
 use Rattle.script_lines.specs.declared.answer.Answer.TheVariants.{Created, Dumped, Stepped, Refused, Stopped, Recovered}
@@ -11,7 +13,7 @@ use Rattle.script_lines.specs.declared.answer.Refusal.TheVariants as refusals
 use Rattle.script_lines.specs.declared.answer.PartitionDump.{PartitionDump}
 use Rattle.report_lines.specs.declared.fault.Fault.{Fault}
 use Rattle.report_lines.specs.declared.fault.Fault.TheVariants.{Words, Script, Read}
-use Rattle.report_lines.specs.Line.{pairs_data, caches_data, dumps_data, outcomes_data, refusal_data, answer_data, fault_data}
+use Rattle.report_lines.specs.Line.{pairs_data, caches_data, dumps_data, outcomes_data, reply_data, refusal_data, answer_data, fault_data}
 
 members_have_float-pairs_data : (pairs : Pairs) → members_have_float (pairs_data pairs) ≡ false
 members_have_float-pairs_data [] = refl
@@ -33,10 +35,15 @@ has_float-refusal_data (refusals.Fault host) = refl
 has_float-refusal_data refusals.NotCreated = refl
 has_float-refusal_data (refusals.Damaged host partition file at) = refl
 
+has_float-reply_data : (reply : Reply) → has_float (reply_data reply) ≡ false
+has_float-reply_data (replies.Value None) = refl
+has_float-reply_data (replies.Value (Some value)) = refl
+has_float-reply_data (replies.Count count) = refl
+has_float-reply_data replies.Done = refl
+
 items_have_float-outcomes_data : (outcomes : List Outcome) → items_have_float (outcomes_data outcomes) ≡ false
 items_have_float-outcomes_data [] = refl
-items_have_float-outcomes_data (events.Value None ∷ outcomes) = items_have_float-outcomes_data outcomes
-items_have_float-outcomes_data (events.Value (Some value) ∷ outcomes) = items_have_float-outcomes_data outcomes
+items_have_float-outcomes_data (events.Replied reply ∷ outcomes) = rw (has_float-reply_data reply) (items_have_float-outcomes_data outcomes)
 items_have_float-outcomes_data (events.Refused refusal ∷ outcomes) = rw (has_float-refusal_data refusal) (items_have_float-outcomes_data outcomes)
 
 pub has_float-answer_data : (answer : Answer) → has_float (answer_data answer) ≡ false

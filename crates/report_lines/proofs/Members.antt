@@ -1,4 +1,4 @@
--- Members that are put in byte order of their names go last, one after the other.
+-- Members that are put in byte order of their names are added at the end.
 use Rattle.std.proofs.Common.{◌≡◌, ℕ, List, [], ◌∷◌, ◌++◌, map, Less, Greater, nat_cmp, refl, sym, ap, ◌∙◌, subst, append-nil}
 use Rattle.std.proofs.lemmas.Cmp.{nat_list_cmp_total}
 use Rattle.std.specs.BTreeMap.{BTreeMap}
@@ -37,7 +37,7 @@ pub put-listed_next : {X : Type 0} (data_of : X → Data) (all done : List (List
 put-listed_next data_of all done next more is rises =
     put-listed data_of done next more (subst (λ entries. IsStrictlySortedBy (slice_cmp nat_cmp) (keys_of entries)) is rises)
 
--- where nothing is left, the entries so far are all
+-- if no entry is left, the entries so far are all
 pub listed_all : {X : Type 0} (data_of : X → Data) (all done more : List (List ℕ × X)) → all ≡ done ++ more → more ≡ [] → listed data_of done ≡ listed data_of all
 listed_all data_of all done more is ends =
     ap (listed data_of) (sym (append-nil done) ∙ ap (λ entries. done ++ entries) (sym ends) ∙ sym is)

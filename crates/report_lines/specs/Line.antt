@@ -1,7 +1,9 @@
--- The line of a report for each answer: compact JSON, the members of each object in byte order, and a line feed. Texts are their bytes.
+-- The line of each answer and fault: compact JSON, with the members of each object in byte order, and a line feed. Texts are their bytes.
 use Rattle.std.specs.Prelude.{ℕ, true, List, [], ◌∷◌, ◌++◌, Option, Some, None, codes}
 use Rattle.serde_json.specs.Data.{Data, null, boolean, number, unsigned, string, array, object, Items, no_items, item, Members, no_members, member}
 use Rattle.serde_json.specs.Written.{compact_text}
+use Rattle.cache_key.specs.declared.request.Reply.{Reply}
+use Rattle.cache_key.specs.declared.request.Reply.TheVariants as replies
 use Rattle.cache_model.specs.Caches.{Pairs, Caches}
 use Rattle.store_ident.specs.Ident.{ident_text}
 use Rattle.script_lines.specs.declared.answer.Answer.{Answer}
@@ -44,7 +46,7 @@ dumps_data (dump ∷ dumps) = item (dump_data dump) (dumps_data dumps)
 abbrev pub host_refusal : List ℕ → List ℕ → Data
 host_refusal name host = object (member (codes "host") (string host) (member (codes "refused") (string name) no_members))
 
--- a store of the host that leaves its form
+-- a damaged store of the host
 abbrev pub damage_data : List ℕ → ℕ → ℕ → ℕ → Data
 damage_data host partition file at = object (member (codes "at") (number (unsigned at))
     (member (codes "file") (number (unsigned file))
@@ -60,14 +62,19 @@ refusal_data (refusals.Fault host) = host_refusal (codes "fault") host
 refusal_data refusals.NotCreated = single (codes "refused") (string (codes "notCreated"))
 refusal_data (refusals.Damaged host partition file at) = damage_data host partition file at
 
--- ---- outcomes of events
+-- ---- replies, and outcomes of events
 
 abbrev pub optional_data : Option (List ℕ) → Data
 optional_data None = null
 optional_data (Some value) = string value
 
+abbrev pub reply_data : Reply → Data
+reply_data (replies.Value value) = single (codes "value") (optional_data value)
+reply_data (replies.Count count) = single (codes "count") (number (unsigned count))
+reply_data replies.Done = string (codes "done")
+
 abbrev pub outcome_data : Outcome → Data
-outcome_data (events.Value value) = single (codes "value") (optional_data value)
+outcome_data (events.Replied reply) = reply_data reply
 outcome_data (events.Refused refusal) = refusal_data refusal
 
 abbrev pub outcomes_data : List Outcome → Items
@@ -76,13 +83,13 @@ outcomes_data (outcome ∷ outcomes) = item (outcome_data outcome) (outcomes_dat
 
 -- ---- answers of commands
 
--- a cluster that was opened, with one host
+-- a cluster with one host that was opened
 abbrev pub recovered_data : ℕ → List ℕ → ℕ → Data
 recovered_data epoch host opened = object (member (codes "epoch") (number (unsigned epoch))
     (member (codes "hosts") (array (item (string host) no_items))
     (member (codes "opened") (number (unsigned opened)) no_members)))
 
--- a cluster that was just made has epoch 1
+-- a new cluster has epoch 1
 abbrev pub answer_data : Answer → Data
 answer_data (Created host) = object (member (codes "created") (string host) (member (codes "epoch") (number (unsigned 1)) no_members))
 answer_data (Dumped partitions) = single (codes "dump") (array (dumps_data partitions))
@@ -102,6 +109,6 @@ fault_data Words = single (codes "fault") (string (codes "words"))
 fault_data (Script line) = object (member (codes "fault") (string (codes "script")) (member (codes "line") (number (unsigned line)) no_members))
 fault_data Read = single (codes "fault") (string (codes "read"))
 
--- the last line of a run that ends with the fault
+-- the last line of a report, if the run ends with the fault
 abbrev pub fault_line : Fault → List ℕ
 fault_line fault = compact_text (fault_data fault) ++ 10 ∷ []

@@ -1,12 +1,12 @@
-//! What ends a run before its script does.
+//! The faults that end a run before its script ends.
 
-/// What ends a run, and is told in its last line.
+/// What ends a run before its script ends. The last line of the report shows it.
 #[derive(Clone, Copy, Debug, PartialEq, Eq)]
 pub enum Fault {
-    /// The words of the command line have no plan.
+    /// The command-line arguments plan no run.
     Words,
-    /// This line of the script has no form or is past a limit; lines are counted from 1.
+    /// This line of the script is no command, or is past a limit. Lines count from 1.
     Script { line: u32 },
-    /// The script couldn't be read to its end.
+    /// The script could not be read to its end.
     Read,
 }

@@ -1,4 +1,4 @@
-//! The lines themselves.
+//! Prints the line of an answer and of a fault.
 ghost use Rattle.std.specs.Prelude.{◌≡◌, [], ◌∷◌, ◌++◌, false, IfOk};
 ghost use Rattle.serde_json.specs.Written.{compact_text, has_float};
 ghost use Rattle.serde_json.specs.View.{view};
@@ -20,7 +20,7 @@ pub fn print(alloc: Global, answer: &Answer) -> Result<Vec<u8>, AllocError>
     line_of(alloc, &value)
 }
 
-/// The last line of a run that ends with the fault.
+/// The last line of a report, if the run ends with the fault.
 ///
 /// Takes memory for the line, and while it is made.
 pub fn print_fault(alloc: Global, fault: Fault) -> Result<Vec<u8>, AllocError>

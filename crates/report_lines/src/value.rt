@@ -1,16 +1,16 @@
 //! The JSON values of answers and faults.
 ghost use Rattle.std.specs.Prelude.{◌≡◌, IfOk};
 ghost use Rattle.serde_json.specs.View.{view, items_view};
-ghost use Rattle.report_lines.specs.Line.{dump_data, dumps_data, outcome_data, outcomes_data, host_refusal, refusal_data, answer_data, fault_data};
+ghost use Rattle.report_lines.specs.Line.{dump_data, dumps_data, reply_data, outcome_data, outcomes_data, host_refusal, refusal_data, answer_data, fault_data};
 
 use crate::contents::caches_members;
 use crate::fault::Fault;
-use cache_key::HostName;
+use cache_key::{HostName, Reply};
 use script_lines::{Answer, Outcome, Outcomes, PartitionDump, PartitionDumps, Refusal};
 use serde_json::{Value, json};
 use std::alloc::{AllocError, Global};
 
-/// A cluster that was just made has this epoch.
+/// The epoch of a new cluster.
 const FIRST_EPOCH: u64 = 1;
 
 /// The value of an answer.
@@ -77,9 +77,19 @@ fn outcome_value(alloc: Global, outcome: &Outcome) -> Result<Value, AllocError>
     ensures { IfOk result (λ value. view value ≡ outcome_data outcome.now) }
 {
     match outcome {
-        Outcome::Value { value: Some(value) } => json!(in alloc; {"value": value.text()}),
-        Outcome::Value { value: None } => json!(in alloc; {"value": null}),
+        Outcome::Replied { reply } => reply_value(alloc, reply),
         Outcome::Refused { refusal } => refusal_value(alloc, refusal),
+    }
+}
+
+fn reply_value(alloc: Global, reply: &Reply) -> Result<Value, AllocError>
+    ensures { IfOk result (λ value. view value ≡ reply_data reply.now) }
+{
+    match reply {
+        Reply::Value(Some(value)) => json!(in alloc; {"value": value.text()}),
+        Reply::Value(None) => json!(in alloc; {"value": null}),
+        Reply::Count(count) => json!(in alloc; {"count": *count}),
+        Reply::Done => json!(in alloc; "done"),
     }
 }
 

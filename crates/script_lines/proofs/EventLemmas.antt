@@ -1,43 +1,23 @@
 -- Laws of events and lists of them.
-use Rattle.std.proofs.Common.{◌≡◌, ℕ, ◌<◌, ◌+◌, List, [], ◌∷◌, ◌++◌, length, get_or, take, zero, suc, codes, refl, sym, ap, ◌∙◌, arith}
+use Rattle.std.proofs.Common.{◌≡◌, ℕ, ◌<◌, ◌+◌, List, [], ◌∷◌, ◌++◌, length, get_or, take, zero, suc, sym, ap, ◌∙◌, arith}
 use Rattle.std.specs.List.{AllByRecursion}
 use Rattle.std.proofs.lemmas.List.{take_more}
-use Rattle.serde_json.specs.Data.{Data, string, array, no_items, item}
+use Rattle.serde_json.specs.Data.{Data, array, no_items, item}
 use Rattle.serde_json.specs.View.{view, items_view}
 use Rattle.serde_json.specs.declared.value.Value.{Value}
 use Rattle.script_lines.specs.Form.{event_data, events_data, EventKeepsLimits}
 use Rattle.script_lines.specs.Reading.{IsEventOf, AreEventsIn, AreEventsOf}
 use Rattle.script_lines.specs.declared.command.Event.{Event}
-use Rattle.script_lines.specs.declared.command.Event.TheVariants.{Get, Put}
 
--- where neither form of an event fits, there is no event
-no_event_in : (vs : List Value) → (length vs ≡ 3 → (x : Value) → ((y : Value) → get_or vs 0 y ≡ x) → view x ≡ string (codes "get") → ⊥)
-    → (length vs ≡ 4 → (x : Value) → ((y : Value) → get_or vs 0 y ≡ x) → view x ≡ string (codes "put") → ⊥) → (event : Event) → array (items_view vs) ≡ event_data event → ⊥
-no_event_in [] no_get no_put (Get cache key) is = cc
-no_event_in (a ∷ []) no_get no_put (Get cache key) is = cc
-no_event_in (a ∷ b ∷ []) no_get no_put (Get cache key) is = cc
-no_event_in (a ∷ b ∷ c ∷ []) no_get no_put (Get cache key) is = no_get refl a (λ y. refl) (cc)
-no_event_in (a ∷ b ∷ c ∷ d ∷ vs) no_get no_put (Get cache key) is = cc
-no_event_in [] no_get no_put (Put cache key value) is = cc
-no_event_in (a ∷ []) no_get no_put (Put cache key value) is = cc
-no_event_in (a ∷ b ∷ []) no_get no_put (Put cache key value) is = cc
-no_event_in (a ∷ b ∷ c ∷ []) no_get no_put (Put cache key value) is = cc
-no_event_in (a ∷ b ∷ c ∷ d ∷ []) no_get no_put (Put cache key value) is = no_put refl a (λ y. refl) (cc)
-no_event_in (a ∷ b ∷ c ∷ d ∷ e ∷ vs) no_get no_put (Put cache key value) is = cc
-
-pub no_event : (d : Data) (vs : List Value) → d ≡ array (items_view vs) → (length vs ≡ 3 → (x : Value) → ((y : Value) → get_or vs 0 y ≡ x) → view x ≡ string (codes "get") → ⊥)
-    → (length vs ≡ 4 → (x : Value) → ((y : Value) → get_or vs 0 y ≡ x) → view x ≡ string (codes "put") → ⊥) → (event : Event) → IsEventOf d event → ⊥
-no_event d vs there no_get no_put event is = no_event_in vs no_get no_put event (sym there ∙ is.is)
-
--- at each place of the events' list stands an event
+-- at each index of the events' list stands an event
 event_at : (vs : List Value) (events : List Event) (i : ℕ) (v : Value) → i < length vs → v ≡ get_or vs i v → items_view vs ≡ events_data events → AllByRecursion EventKeepsLimits events → (event : Event) × IsEventOf (view v) event
 event_at [] events i v within is are limits = absurd (omega arith)
 event_at (x ∷ vs) [] i v within is are limits = cc
 event_at (x ∷ vs) (e ∷ events) zero v within is are limits = (e, record { is = cc; limits = limits.0 })
 event_at (x ∷ vs) (e ∷ events) (suc i) v within is are limits = event_at vs events i v (omega arith) is (cc) limits.1
 
-pub event_at_place : (d : Data) (vs : List Value) (i : ℕ) (v : Value) → d ≡ array (items_view vs) → i < length vs → v ≡ get_or vs i v → (events : List Event) → AreEventsOf d events → (event : Event) × IsEventOf (view v) event
-event_at_place d vs i v there within is events are =
+pub event_at_index : (d : Data) (vs : List Value) (i : ℕ) (v : Value) → d ≡ array (items_view vs) → i < length vs → v ≡ get_or vs i v → (events : List Event) → AreEventsOf d events → (event : Event) × IsEventOf (view v) event
+event_at_index d vs i v there within is events are =
     let whole : array (items_view vs) ≡ array (events_data events) = sym there ∙ are.are in
     event_at vs events i v within is (cc) are.limits
 
@@ -54,7 +34,7 @@ limits-push : (events : List Event) (e : Event) → AllByRecursion EventKeepsLim
 limits-push [] e all one = (one, tt)
 limits-push (f ∷ events) e all one = (all.0, limits-push events e all.1 one)
 
--- one event more is that of one item more
+-- one item more makes one event more
 pub AreEventsIn-more : (vs : List Value) (i : ℕ) (v : Value) (events : List Event) (e : Event) → i < length vs → v ≡ get_or vs i v → AreEventsIn (items_view (take i vs)) events → IsEventOf (view v) e
     → AreEventsIn (items_view (take (i + 1) vs)) (events ++ e ∷ [])
 AreEventsIn-more vs i v events e within is are one =

@@ -1,19 +1,24 @@
--- Laws of the forms: a value is at most one command's.
+-- Laws of the forms: data is at most one command.
 use Rattle.std.proofs.Common.{◌≡◌, ℕ, List, [], ◌∷◌, Some, refl, sym, ap, ◌∙◌, arith}
 use Rattle.serde_json.specs.Data.{Data, string, object, member}
-use Rattle.script_lines.specs.Form.{event_data, events_data, command_data, IsLineOf}
+use Rattle.cache_key.specs.declared.request.Request.{Request}
+use Rattle.cache_key.specs.declared.request.Request.TheVariants.{Get, Put}
+use Rattle.script_lines.specs.Form.{request_data, event_data, events_data, command_data, IsLineOf}
 use Rattle.script_lines.specs.declared.command.Command.{Command}
 use Rattle.script_lines.specs.declared.command.Command.TheVariants.{Create, Dump, Steps, Stop, Recover}
 use Rattle.script_lines.specs.declared.command.Event.{Event}
-use Rattle.script_lines.specs.declared.command.Event.TheVariants.{Get, Put}
+use Rattle.script_lines.specs.declared.command.Event.TheVariants.{Call}
 
-pub event_data-injective : (a b : Event) → event_data a ≡ event_data b → a ≡ b
-event_data-injective (Get c k) (Get d l) e = cc
-event_data-injective (Get c k) (Put d l w) e = cc
-event_data-injective (Put c k v) (Get d l) e = cc
-event_data-injective (Put c k v) (Put d l w) e = cc
+request_data-injective : (a b : Request) → request_data a ≡ request_data b → a ≡ b
+request_data-injective (Get c k) (Get d l) e = cc
+request_data-injective (Get c k) (Put d l w) e = cc
+request_data-injective (Put c k v) (Get d l) e = cc
+request_data-injective (Put c k v) (Put d l w) e = cc
 
-pub events_data-injective : (xs ys : List Event) → events_data xs ≡ events_data ys → xs ≡ ys
+event_data-injective : (a b : Event) → event_data a ≡ event_data b → a ≡ b
+event_data-injective (Call a) (Call b) e = ap Call (request_data-injective a b e)
+
+events_data-injective : (xs ys : List Event) → events_data xs ≡ events_data ys → xs ≡ ys
 events_data-injective [] [] e = refl
 events_data-injective [] (b ∷ ys) e = cc
 events_data-injective (a ∷ xs) [] e = cc
@@ -27,7 +32,7 @@ abbrev first_letter : Data → ℕ
 first_letter (object (member name (string (letter ∷ word)) ms)) = letter
 first_letter d = 0
 
--- a command is known from another by its name
+-- commands with the same object are one
 pub command_data-injective : (a b : Command) → command_data a ≡ command_data b → a ≡ b
 command_data-injective (Create h) (Create i) e = cc
 command_data-injective (Create h) Dump e = cc
@@ -55,6 +60,6 @@ command_data-injective (Recover h) (Steps fs) e = cc
 command_data-injective (Recover h) Stop e = cc
 command_data-injective (Recover h) (Recover i) e = cc
 
--- the line is at most one command's
+-- the line is at most one command
 pub one_of_a_line : (line : List ℕ) (a b : Command) → IsLineOf line a → IsLineOf line b → a ≡ b
 one_of_a_line line a b p q = let e : Some (command_data a) ≡ Some (command_data b) = sym p.value ∙ q.value in command_data-injective a b (cc)

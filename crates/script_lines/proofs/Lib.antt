@@ -1,4 +1,5 @@
 pub mod EventLemmas
 pub mod FormLemmas
 pub mod ReadingLemmas
+pub mod RequestLemmas
 pub mod ShapeLemmas

@@ -1,12 +1,12 @@
--- Laws of what reading answers, and of shapes.
-use Rattle.std.proofs.Common.{◌≡◌, ℕ, ◌≤◌, ◌<◌, ◌↔◌, List, [], length, get_or, Some, Result, Err, IsErrOf, false, sym, ap, ◌∙◌, subst, arith}
+-- Laws of the results of reading, and of shapes.
+use Rattle.std.proofs.Common.{◌≡◌, ℕ, ◌≤◌, ◌<◌, ◌↔◌, List, [], length, get_or, Some, Result, Err, IsErrOf, false, refl, sym, ap, ◌∙◌, subst, arith}
 use Rattle.std.proofs.lemmas.List.Elements.{All-get_or}
 use Rattle.serde_json.specs.Data.{Data, null, boolean, number, string, array, object}
 use Rattle.serde_json.specs.Find.{as_str}
 use Rattle.cache_key.specs.Names.{most_name_bytes, is_name_byte, IsNameByte, IsName, IsFirstBadByte}
 use Rattle.cache_key.specs.declared.fault.NameFault.{NameFault}
 use Rattle.cache_key.specs.declared.fault.NameFault.TheVariants as names
-use Rattle.script_lines.specs.Faults.{fault_of}
+use Rattle.script_lines.specs.Faults.{IsOfForm, IsFaultOfText}
 use Rattle.script_lines.specs.Reading.{Reads, IsTextOf}
 use Rattle.script_lines.specs.declared.fault.LineFault.{LineFault}
 use Rattle.script_lines.specs.declared.fault.LineFault.TheVariants.{Form, NoMemory}
@@ -18,48 +18,45 @@ no_bad_byte text at first name =
     let bad : is_name_byte (get_or text at 0) ≡ false = first.bad in
     grind arith
 
--- what is refused below is refused above, if what is so above is so below
+-- a part that is refused refuses the whole, if the whole has such a part
 pub Reads-refused : {X Y : Type 0} (P : X → Type 0) (Q : Y → Type 0) (below : Result X LineFault) (above : Result Y LineFault) (fault : LineFault)
     → Reads P below → below ≡ Err fault → above ≡ Err fault → ((y : Y) → Q y → (x : X) × P x) → Reads Q above
-Reads-refused {X} {Y} P Q below above Form reads was is has =
+Reads-refused {X} {Y} P Q below above (Form reason) reads was is has =
     let none : (x : X) → P x → ⊥ = subst (Reads P) was reads in
     let told : (y : Y) → Q y → ⊥ = λ y q. none (has y q).0 (has y q).1 in
     subst (Reads Q) (sym is) told
 Reads-refused P Q below above NoMemory reads was is has = subst (Reads Q) (sym is) tt
 
--- a text that was refused as a name is none, want of memory aside
-pub name_refused : (d : Data) (text : List ℕ) (below : Result (List ℕ) NameFault) (above : Result (List ℕ) LineFault) (fault : NameFault) (e : LineFault)
-    → d ≡ string text → below ≡ Err fault → above ≡ Err e → e ≡ fault_of fault
-    → (IsErrOf below names.Empty ↔ (text ≡ [])) → (IsErrOf below names.Long ↔ (most_name_bytes < length text))
-    → ((at : ℕ) → IsErrOf below (names.BadByte at) ↔ ((length text ≤ most_name_bytes) × IsFirstBadByte text at))
-    → Reads (IsTextOf IsName d) above
-name_refused d text below above names.Empty e at_d was is told empty long bad =
-    let empties : text ≡ [] = empty.0 was in
-    let none : (name : List ℕ) → IsTextOf IsName d name → ⊥ = λ name there.
+-- a text that is none is refused by the form
+refused : (P : List ℕ → Type 0) (fault : LineFault) → IsOfForm fault → ((text : List ℕ) → P text → ⊥) → Reads P (Err fault)
+refused P (Form reason) form none = none
+refused P NoMemory form none = absurd form
+
+-- a text that was refused as a name is none, running out of memory aside
+pub name_refused : (d : Data) (text : List ℕ) (fault : NameFault) (e : LineFault)
+    → d ≡ string text → IsFaultOfText fault e
+    → (IsErrOf {T = List ℕ} (Err fault) names.Empty ↔ (text ≡ [])) → (IsErrOf {T = List ℕ} (Err fault) names.Long ↔ (most_name_bytes < length text))
+    → ((at : ℕ) → IsErrOf {T = List ℕ} (Err fault) (names.BadByte at) ↔ ((length text ≤ most_name_bytes) × IsFirstBadByte text at))
+    → Reads (IsTextOf IsName d) (Err e)
+name_refused d text names.Empty e at_d told empty long bad =
+    refused (IsTextOf IsName d) e told (λ name there.
     let same : name ≡ text = cc (there.is, at_d) in
     let least : 1 ≤ length name = there.limits.least in
-    let zero_long : length name ≡ 0 = ap length (same ∙ empties) in
-    omega arith in
-    let result : above ≡ Err Form = is ∙ ap Err told in
-    subst (Reads (IsTextOf IsName d)) (sym result) none
-name_refused d text below above names.Long e at_d was is told empty long bad =
-    let too_long : most_name_bytes < length text = long.0 was in
-    let none : (name : List ℕ) → IsTextOf IsName d name → ⊥ = λ name there.
+    let zero_long : length name ≡ 0 = ap length (same ∙ empty.0 refl) in
+    omega arith)
+name_refused d text names.Long e at_d told empty long bad =
+    refused (IsTextOf IsName d) e told (λ name there.
     let same : name ≡ text = cc (there.is, at_d) in
+    let too_long : most_name_bytes < length text = long.0 refl in
     let most : length name ≤ most_name_bytes = there.limits.most in
     let lengths : length name ≡ length text = ap length same in
-    omega arith in
-    let result : above ≡ Err Form = is ∙ ap Err told in
-    subst (Reads (IsTextOf IsName d)) (sym result) none
-name_refused d text below above (names.BadByte at) e at_d was is told empty long bad =
-    let none : (name : List ℕ) → IsTextOf IsName d name → ⊥ = λ name there.
+    omega arith)
+name_refused d text (names.BadByte at) e at_d told empty long bad =
+    refused (IsTextOf IsName d) e told (λ name there.
     let same : name ≡ text = cc (there.is, at_d) in
-    no_bad_byte text at ((bad at).0 was).1 (subst IsName same there.limits) in
-    let result : above ≡ Err Form = is ∙ ap Err told in
-    subst (Reads (IsTextOf IsName d)) (sym result) none
-name_refused d text below above names.NoMemory e at_d was is told empty long bad =
-    let result : above ≡ Err NoMemory = is ∙ ap Err told in
-    subst (Reads (IsTextOf IsName d)) (sym result) tt
+    no_bad_byte text at ((bad at).0 refl).1 (subst IsName same there.limits))
+name_refused d text names.NoMemory e at_d told empty long bad =
+    subst (λ f. Reads (IsTextOf IsName d) (Err f)) (sym told) tt
 
 pub as_str-string : (d : Data) (text : List ℕ) → as_str d ≡ Some text → d ≡ string text
 as_str-string null text e = cc

@@ -1,4 +1,4 @@
--- The members of an object and the items of a list, known one by one, make up the whole.
+-- Objects and lists are known by their members and items.
 use Rattle.std.proofs.Common.{◌≡◌, ℕ, ◌⊎◌, List, [], ◌∷◌, length, get_or, codes, Some, Option, Ordering, Less, Equal, Greater, string_bytes, string_cmp, nat_cmp, is_eq, refl, sym, ap, ◌∙◌, subst, inl, inr, arith}
 use Rattle.std.proofs.lemmas.Cmp.{nat_list_cmp_total, tied_itself}
 use Rattle.std.proofs.lemmas.Map.Text.{is_eq-slice_cmp}
@@ -47,7 +47,7 @@ found_at Less k l e d rest is found = inr found
 found_at Equal k l e d rest is found = inl ((bytes_eq-Decides k l).0 (sym (is_eq-slice_cmp k l) ∙ ap is_eq is), cc)
 found_at Greater k l e d rest is found = inr found
 
--- what is found stands in front, or is found behind
+-- the member that is found is the first, or is found after it
 found : (k l : List ℕ) (e d : Data) (ms : Members) → get_member k (member l e ms) ≡ Some d → ((k ≡ l) × (e ≡ d)) ⊎ (get_member k ms ≡ Some d)
 found k l e d ms is = found_at (slice_cmp nat_cmp k l) k l e d (get_member k ms) refl is
 
@@ -119,7 +119,7 @@ pub one_named : (d : Data) (found word : List ℕ) (count : ℕ) → get (codes 
 one_named d found word count at_do is counted one =
     one_member (codes "do") (string word) d (sym counted ∙ one) (at_do ∙ ap (λ text. Some (string text)) is)
 
--- an object that has a command's name, and one member behind it
+-- an object that has a command's name, and one member after it
 pub two_named : (d : Data) (found word name : List ℕ) (a : Data) (count : ℕ) → get (codes "do") d ≡ Some (string found) → found ≡ word → count ≡ member_count_of d → count ≡ 2 → IsInOrder d
     → slice_cmp nat_cmp (codes "do") name ≡ Less → get name d ≡ Some a → d ≡ object_of_two (codes "do") (string word) name a
 two_named d found word name a count at_do is counted two order above at_name =
@@ -140,7 +140,7 @@ not_one_item [] a many is = cc
 not_one_item (x ∷ []) a many is = many refl
 not_one_item (x ∷ y ∷ vs) a many is = cc
 
--- where there isn't one item, there is no list of one
+-- a list with another number of items is no list of one
 pub not_of_one : (d : Data) (vs : List Value) (a : Data) → d ≡ array (items_view vs) → (length vs ≡ 1 → ⊥) → d ≡ list_of_one a → ⊥
 not_of_one d vs a there many is = not_one_item vs a many (sym there ∙ is)
 

@@ -1,19 +1,25 @@
--- Which command a line of a script is: the JSON object of the command, with exactly these members. Texts are their bytes.
+-- The JSON object of each command, with exactly these members, and the lines that are commands. Texts are their bytes.
 use Rattle.std.specs.Prelude.{◌≡◌, ℕ, List, [], ◌∷◌, Some, codes}
 use Rattle.std.specs.List.{AllByRecursion}
 use Rattle.std.specs.Str.{IsUtf8}
 use Rattle.serde_json.specs.Data.{Data, string, array, object, Items, no_items, item, no_members, member}
 use Rattle.serde_json.specs.Read.{read}
 use Rattle.cache_key.specs.Names.{IsName, IsKey, IsValue}
+use Rattle.cache_key.specs.declared.request.Request.{Request}
+use Rattle.cache_key.specs.declared.request.Request.TheVariants.{Get, Put}
 use Rattle.script_lines.specs.declared.command.Command.{Command}
 use Rattle.script_lines.specs.declared.command.Command.TheVariants.{Create, Dump, Steps, Stop, Recover}
 use Rattle.script_lines.specs.declared.command.Event.{Event}
-use Rattle.script_lines.specs.declared.command.Event.TheVariants.{Get, Put}
+use Rattle.script_lines.specs.declared.command.Event.TheVariants.{Call}
 
--- an event is a list: its name, the cache, the key, and what is put there
+-- a request is a list: its name, the cache, the key, and what is put there
+abbrev pub request_data : Request → Data
+request_data (Get cache key) = array (item (string (codes "get")) (item (string cache) (item (string key) no_items)))
+request_data (Put cache key value) = array (item (string (codes "put")) (item (string cache) (item (string key) (item (string value) no_items))))
+
+-- an event that asks a cache is the list of the request
 abbrev pub event_data : Event → Data
-event_data (Get cache key) = array (item (string (codes "get")) (item (string cache) (item (string key) no_items)))
-event_data (Put cache key value) = array (item (string (codes "put")) (item (string cache) (item (string key) (item (string value) no_items))))
+event_data (Call request) = request_data request
 
 abbrev pub events_data : List Event → Items
 events_data [] = no_items
@@ -27,10 +33,13 @@ command_data (Steps events) = object (member (codes "do") (string (codes "steps"
 command_data Stop = object (member (codes "do") (string (codes "stop")) no_members)
 command_data (Recover host) = object (member (codes "do") (string (codes "recover")) (member (codes "hosts") (array (item (string host) no_items)) no_members))
 
--- the names, keys and values of an event keep their limits
+-- the name, the key and the value of a request keep their limits
+abbrev pub RequestKeepsLimits : Request → Type 0
+RequestKeepsLimits (Get cache key) = IsName cache × IsKey key
+RequestKeepsLimits (Put cache key value) = IsName cache × IsKey key × IsValue value
+
 abbrev pub EventKeepsLimits : Event → Type 0
-EventKeepsLimits (Get cache key) = IsName cache × IsKey key
-EventKeepsLimits (Put cache key value) = IsName cache × IsKey key × IsValue value
+EventKeepsLimits (Call request) = RequestKeepsLimits request
 
 abbrev pub KeepsLimits : Command → Type 0
 KeepsLimits (Create host) = IsName host
@@ -39,12 +48,12 @@ KeepsLimits (Steps events) = AllByRecursion EventKeepsLimits events
 KeepsLimits Stop = Unit {0}
 KeepsLimits (Recover host) = IsName host
 
--- the line is UTF-8 and JSON, and its value is that of the command
+-- the line is UTF-8 and JSON, and its value is the object of the command
 pub record IsLineOf (line : List ℕ) (command : Command) : Type 0 where
   pub text : IsUtf8 line
   pub value : read line ≡ Some (command_data command)
   pub limits : KeepsLimits command
 
--- the line has no form
+-- the line is no command
 abbrev pub HasNoForm : List ℕ → Type 0
 HasNoForm line = (command : Command) → IsLineOf line command → ⊥

@@ -1,4 +1,4 @@
--- What reading a line answers, part by part, for private clauses.
+-- The results of reading a line, part by part, for private clauses.
 use Rattle.std.specs.Prelude.{◌≡◌, ℕ, List, Result, Ok, Err}
 use Rattle.std.specs.Ordering.{nat_cmp}
 use Rattle.std.specs.Cmp.Lexicographic.{slice_cmp}
@@ -7,7 +7,8 @@ use Rattle.std.specs.List.{AllByRecursion}
 use Rattle.serde_json.specs.Data.{Data, null, boolean, number, string, array, object, Items, no_items, item, Members, no_members, member}
 use Rattle.serde_json.specs.Events.{members_len}
 use Rattle.cache_key.specs.Names.{IsName}
-use Rattle.script_lines.specs.Form.{event_data, events_data, command_data, EventKeepsLimits, KeepsLimits}
+use Rattle.cache_key.specs.declared.request.Request.{Request}
+use Rattle.script_lines.specs.Form.{request_data, event_data, events_data, command_data, RequestKeepsLimits, EventKeepsLimits, KeepsLimits}
 use Rattle.script_lines.specs.declared.command.Command.{Command}
 use Rattle.script_lines.specs.declared.command.Event.{Event}
 use Rattle.script_lines.specs.declared.fault.LineFault.{LineFault}
@@ -29,10 +30,10 @@ object_of_two first a second b = object (member first a (member second b no_memb
 
 -- ---- what is read
 
--- what is read is so, and where the form is refused nothing is so
+-- a result of reading: what is read is so, and after a refusal by the form nothing is so
 abbrev pub Reads : {X : Type 0} → (X → Type 0) → Result X LineFault → Type 0
 Reads IsSo (Ok x) = IsSo x
-Reads {X} IsSo (Err Form) = (x : X) → IsSo x → ⊥
+Reads {X} IsSo (Err (Form reason)) = (x : X) → IsSo x → ⊥
 Reads IsSo (Err NoMemory) = Unit {0}
 
 -- the text stands there, and keeps its limits
@@ -44,6 +45,10 @@ pub record IsTextOf (KeepsItsLimits : List ℕ → Type 0) (d : Data) (text : Li
 pub record IsOnlyHostOf (d : Data) (host : List ℕ) : Type 0 where
   pub is : d ≡ list_of_one (string host)
   pub limits : IsName host
+
+pub record IsRequestOf (d : Data) (request : Request) : Type 0 where
+  pub is : d ≡ request_data request
+  pub limits : RequestKeepsLimits request
 
 pub record IsEventOf (d : Data) (event : Event) : Type 0 where
   pub is : d ≡ event_data event
@@ -64,7 +69,7 @@ pub record IsCommandOf (d : Data) (command : Command) : Type 0 where
 
 -- ---- members of an object
 
--- the number of members of an object, none of what is no object
+-- the number of members of an object, 0 for other data
 abbrev pub member_count_of : Data → ℕ
 member_count_of null = 0
 member_count_of (boolean b) = 0

@@ -1,33 +1,33 @@
-//! What a line of a script is answered.
+//! The answers to the commands of a script.
 ghost use Rattle.std.specs.Prelude.{◌≡◌};
 
-use cache_key::{HostName, Value};
+use cache_key::{HostName, Reply};
 use cache_model::Contents;
 use std::marker::Model;
 use store_ident::StoreId;
 
-/// What a command is answered.
+/// The answer to a command.
 #[derive(Drop)]
 pub enum Answer {
-    /// An empty cluster was made, whose one member is the host.
+    /// An empty cluster was made. The host is its one member.
     Created {
         host: HostName,
     },
-    /// The contents of each partition that has a cache, by rising number.
+    /// The contents of each partition that has a cache, in the order of their numbers.
     Dumped {
         partitions: PartitionDumps,
     },
-    /// What each event came to, in their order.
+    /// The outcome of each event, in their order.
     Stepped {
         outcomes: Outcomes,
     },
-    /// The command wasn't done.
+    /// The command was not carried out.
     Refused {
         refusal: Refusal,
     },
     /// The cluster was closed.
     Stopped,
-    /// The cluster was opened at this epoch, with this one host and so many partitions.
+    /// The cluster was opened at this epoch, with this one host. `opened` counts its partitions.
     Recovered {
         epoch: u64,
         host: HostName,
@@ -35,16 +35,16 @@ pub enum Answer {
     },
 }
 
-/// What an event came to.
+/// The outcome of an event.
 #[derive(Drop)]
 pub enum Outcome {
-    /// The value that stood at the key before the event, if there was one.
-    Value { value: Option<Value> },
-    /// The event wasn't done.
+    /// The cache replied.
+    Replied { reply: Reply },
+    /// The event was not carried out.
     Refused { refusal: Refusal },
 }
 
-/// Why a command or an event wasn't done.
+/// Why a command or an event was not carried out.
 #[derive(Drop)]
 pub enum Refusal {
     /// No cluster is open.
@@ -61,7 +61,8 @@ pub enum Refusal {
     },
     /// The disks have no cluster.
     NotCreated,
-    /// The store of this partition in this file of the host first leaves its form at this place, from 0.
+    /// The store of this partition, in this file of the host, has no store's form from this offset on. Offsets count
+    /// bytes from 0.
     Damaged {
         host: HostName,
         partition: u16,
@@ -70,17 +71,17 @@ pub enum Refusal {
     },
 }
 
-/// What one partition has.
+/// The contents of one partition.
 #[derive(Drop)]
 pub struct PartitionDump {
     pub caches: Contents,
-    /// The host that has its newest store.
+    /// The host of its newest store.
     pub host: HostName,
     /// The identifier of that store, with the partition's number.
     pub id: StoreId,
 }
 
-/// What each partition has that has a cache, by rising number.
+/// The dump of each partition that has a cache, in the order of their numbers.
 #[derive(Drop)]
 pub struct PartitionDumps {
     partitions: Vec<PartitionDump>,
@@ -111,7 +112,7 @@ impl PartitionDumps {
     }
 }
 
-/// What the events of a command came to, in their order.
+/// The outcomes of the events of a command, in their order.
 #[derive(Drop)]
 pub struct Outcomes {
     outcomes: Vec<Outcome>,

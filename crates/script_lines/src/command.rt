@@ -1,7 +1,7 @@
-//! What a line of a script asks.
+//! The commands of a script.
 ghost use Rattle.std.specs.Prelude.{◌≡◌, [], ◌∷◌, ◌++◌, OnOk, OnErr};
 
-use cache_key::{CacheName, HostName, Key, Value};
+use cache_key::{HostName, Request};
 use std::alloc::{AllocError, Global};
 use std::marker::Model;
 
@@ -12,28 +12,19 @@ pub enum Command {
     Create { host: HostName },
     /// Shows the contents of every partition.
     Dump,
-    /// Carries out events, one after the other.
+    /// Carries out events, in their order.
     Steps { events: Events },
-    /// Closes the cluster, as where its process ends: what memory has is gone.
+    /// Closes the cluster as the end of its process does: what stands in memory is lost.
     Stop,
-    /// Opens the cluster that the disks of the host have.
+    /// Opens the cluster that stands on the disks of the host.
     Recover { host: HostName },
 }
 
 /// One step of a script.
 #[derive(Drop)]
 pub enum Event {
-    /// Asks for the value at the key.
-    Get {
-        cache: CacheName,
-        key: Key,
-    },
-    /// Writes the value at the key, and asks for the previous one.
-    Put {
-        cache: CacheName,
-        key: Key,
-        value: Value,
-    },
+    /// Asks a cache.
+    Call { request: Request },
 }
 
 /// The events of a command, in their order.

@@ -1,12 +1,11 @@
 //! Reading the events of a command.
-ghost use Rattle.std.specs.Prelude.{codes};
-ghost use Rattle.serde_json.specs.Data.{string};
 ghost use Rattle.serde_json.specs.View.{view};
-ghost use Rattle.script_lines.specs.Reading.{Reads, IsEventOf, AreEventsOf, list_of_three, list_of_four};
+ghost use Rattle.script_lines.specs.Reading.{Reads, IsEventOf, AreEventsOf};
 
 use crate::command::{Event, Events};
 use crate::fault::LineFault;
-use crate::texts::{cache_of, is_text, key_of, value_of};
+use crate::reason::{LineReason, Part};
+use crate::requests::request_of;
 use serde_json::Value as Json;
 use std::alloc::Global;
 
@@ -15,44 +14,22 @@ pub(crate) fn events_of(alloc: Global, value: &Json) -> Result<Events, LineFault
     ensures { Reads (AreEventsOf (view value.now)) result }
 {
     let Some(items) = value.as_array() else {
-        return Err(LineFault::Form);
+        return Err(LineFault::Form {
+            reason: LineReason::NotList { part: Part::Events },
+        });
     };
     let mut events = Vec::new(alloc);
-    for item in items {
-        events.push(event_of(alloc, item)?)?;
+    for (index, item) in items.iter().enumerate() {
+        events.push(event_of(alloc, item, index + 1)?)?;
     }
     Ok(Events::of(events))
 }
 
-/// The event of a list: its name, and what it is asked of.
-fn event_of(alloc: Global, value: &Json) -> Result<Event, LineFault>
+/// The event of a list. Its number, from 1, is for the reason of a fault.
+fn event_of(alloc: Global, value: &Json, number: usize) -> Result<Event, LineFault>
     ensures { Reads (IsEventOf (view value.now)) result }
 {
-    let Some(items) = value.as_array() else {
-        return Err(LineFault::Form);
-    };
-    match items.as_slice() {
-        [name, cache, key] if is_text(name, "get") => get_of(alloc, cache, key),
-        [name, cache, key, value] if is_text(name, "put") => put_of(alloc, cache, key, value),
-        _ => Err(LineFault::Form),
-    }
-}
-
-fn get_of(alloc: Global, cache: &Json, key: &Json) -> Result<Event, LineFault>
-    ensures { Reads (IsEventOf (list_of_three (string (codes "get")) (view cache.now) (view key.now))) result }
-{
-    Ok(Event::Get {
-        cache: cache_of(alloc, cache)?,
-        key: key_of(alloc, key)?,
-    })
-}
-
-fn put_of(alloc: Global, cache: &Json, key: &Json, value: &Json) -> Result<Event, LineFault>
-    ensures { Reads (IsEventOf (list_of_four (string (codes "put")) (view cache.now) (view key.now) (view value.now))) result }
-{
-    Ok(Event::Put {
-        cache: cache_of(alloc, cache)?,
-        key: key_of(alloc, key)?,
-        value: value_of(alloc, value)?,
+    Ok(Event::Call {
+        request: request_of(alloc, value, number)?,
     })
 }

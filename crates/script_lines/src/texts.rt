@@ -5,19 +5,28 @@ ghost use Rattle.serde_json.specs.View.{view};
 ghost use Rattle.cache_key.specs.Names.{IsName, IsKey, IsValue};
 ghost use Rattle.script_lines.specs.Reading.{Reads, IsTextOf, IsOnlyHostOf};
 
+use crate::explain::text_fault;
 use crate::fault::LineFault;
-use cache_key::{CacheName, HostName, Key, Value};
+use crate::reason::{LineReason, Part};
+use cache_key::{
+    CacheName, HostName, Key, MOST_KEY_BYTES, MOST_NAME_BYTES, MOST_VALUE_BYTES, Value,
+};
 use serde_json::Value as Json;
 use std::alloc::Global;
 
-/// The name of a host.
-pub(crate) fn host_of(alloc: Global, value: &Json) -> Result<HostName, LineFault>
+/// The name of a host. The part of the line that it stands in is for the reason of a fault.
+pub(crate) fn host_of(alloc: Global, value: &Json, part: Part) -> Result<HostName, LineFault>
     ensures { Reads (IsTextOf IsName (view value.now)) result }
 {
     let Some(text) = value.as_str() else {
-        return Err(LineFault::Form);
+        return Err(LineFault::Form {
+            reason: LineReason::NotText { part },
+        });
     };
-    Ok(HostName::of(alloc, text)?)
+    match HostName::of(alloc, text) {
+        Ok(made) => Ok(made),
+        Err(fault) => Err(text_fault(fault, text, MOST_NAME_BYTES, part)),
+    }
 }
 
 /// The name of the one host of a list.
@@ -25,42 +34,61 @@ pub(crate) fn only_host_of(alloc: Global, value: &Json) -> Result<HostName, Line
     ensures { Reads (IsOnlyHostOf (view value.now)) result }
 {
     let Some(hosts) = value.as_array() else {
-        return Err(LineFault::Form);
+        return Err(LineFault::Form {
+            reason: LineReason::NotList { part: Part::Hosts },
+        });
     };
     match hosts.as_slice() {
-        [host] => host_of(alloc, host),
-        _ => Err(LineFault::Form),
+        [host] => host_of(alloc, host, Part::OnlyHost),
+        _ => Err(LineFault::Form {
+            reason: LineReason::HostCount { count: hosts.len() },
+        }),
     }
 }
 
 /// The name of a cache.
-pub(crate) fn cache_of(alloc: Global, value: &Json) -> Result<CacheName, LineFault>
+pub(crate) fn cache_of(alloc: Global, value: &Json, part: Part) -> Result<CacheName, LineFault>
     ensures { Reads (IsTextOf IsName (view value.now)) result }
 {
     let Some(text) = value.as_str() else {
-        return Err(LineFault::Form);
+        return Err(LineFault::Form {
+            reason: LineReason::NotText { part },
+        });
     };
-    Ok(CacheName::of(alloc, text)?)
+    match CacheName::of(alloc, text) {
+        Ok(made) => Ok(made),
+        Err(fault) => Err(text_fault(fault, text, MOST_NAME_BYTES, part)),
+    }
 }
 
 /// A key.
-pub(crate) fn key_of(alloc: Global, value: &Json) -> Result<Key, LineFault>
+pub(crate) fn key_of(alloc: Global, value: &Json, part: Part) -> Result<Key, LineFault>
     ensures { Reads (IsTextOf IsKey (view value.now)) result }
 {
     let Some(text) = value.as_str() else {
-        return Err(LineFault::Form);
+        return Err(LineFault::Form {
+            reason: LineReason::NotText { part },
+        });
     };
-    Ok(Key::of(alloc, text)?)
+    match Key::of(alloc, text) {
+        Ok(made) => Ok(made),
+        Err(fault) => Err(text_fault(fault, text, MOST_KEY_BYTES, part)),
+    }
 }
 
-/// What is put at a key.
-pub(crate) fn value_of(alloc: Global, value: &Json) -> Result<Value, LineFault>
+/// A value.
+pub(crate) fn value_of(alloc: Global, value: &Json, part: Part) -> Result<Value, LineFault>
     ensures { Reads (IsTextOf IsValue (view value.now)) result }
 {
     let Some(text) = value.as_str() else {
-        return Err(LineFault::Form);
+        return Err(LineFault::Form {
+            reason: LineReason::NotText { part },
+        });
     };
-    Ok(Value::of(alloc, text)?)
+    match Value::of(alloc, text) {
+        Ok(made) => Ok(made),
+        Err(fault) => Err(text_fault(fault, text, MOST_VALUE_BYTES, part)),
+    }
 }
 
 /// Whether the value is this text.

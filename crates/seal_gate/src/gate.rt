@@ -3,12 +3,12 @@ ghost use Rattle.std.specs.Prelude.{◌≡◌, ◌≢◌, ℕ, ◌≤◌, ◌<�
 ghost use Rattle.disk_trait.specs.View.{Image, View, Tells};
 ghost use Rattle.disk_trait.specs.Calls.{Moved, Same, Cause};
 ghost use Rattle.disk_trait.specs.Moments.{After, Throughout};
-ghost use Rattle.seal_gate.specs.Seal.{IsSealed, IsShort, StaysShort, ButFirst, IsSettled, Each};
+ghost use Rattle.seal_gate.specs.Seal.{header_end, IsSealed, IsShort, StaysShort, ButFirst, IsSettled, Each};
 
 use disk_trait::{Disk, DiskRefusal, write_synced};
 
-/// Where the header ends: the least length of a sealed file.
-const HEADER_END: u64 = 41;
+/// Where the header after the seal ends: the least length of a sealed file.
+pub const HEADER_END: u64 = 41;
 
 /// What `blank` writes.
 const BLANK: u8 = 0;
@@ -82,9 +82,9 @@ pub fn settle<D: Disk>(disk: &mut D, file: u8) -> Result<(), DiskRefusal>
 pub fn seal<D: Disk>(disk: &mut D, file: u8) -> Result<(), DiskRefusal>
     requires file { file ≤ 10 }
     requires settled { IsSettled (D.view disk.old) file }
-    requires long { Each (D.view disk.old) file (λ bytes. 41 ≤ length bytes) }
+    requires long { Each (D.view disk.old) file (λ bytes. header_end ≤ length bytes) }
 
-    // After Ok one image is left: the settled bytes behind a seal.
+    // After Ok one image is left: the settled bytes after a seal.
     ensures sealed { OnOk result (Each (D.view disk.new) file (λ bytes. bytes ≡ 1 ∷ drop 1 ((D.view disk.old).seen file))) }
 
     ensures moments { Throughout (D.view disk.old) (D.view disk.new) (After (D.view disk.old) (Moved file ButFirst)) }

@@ -1,5 +1,5 @@
 -- The text of a store's identifier.
-use Rattle.std.specs.Prelude.{ℕ, ◌<◌, ◌≤◌, ◌^◌, List, ◌∷◌, ◌++◌, false}
+use Rattle.std.specs.Prelude.{ℕ, List, ◌∷◌, ◌++◌, false}
 use Rattle.std.specs.Fmt.{decimal, digits}
 use Rattle.store_ident.specs.declared.ident.StoreId.{StoreId}
 

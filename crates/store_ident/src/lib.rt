@@ -2,11 +2,10 @@
 //!
 //! Seen as: four numbers. Within a partition a greater version is newer.
 //! Keeps: an identifier has one spelling (`ident_text`, specs/Ident.antt).
-//! Not here: how an identifier stands in a store's header, and which of two stores is taken.
+//! Hides: how its text is made.
+//! Not here: how an identifier stands in a store's header (record_form), and which of two stores is taken (newest_store).
 #![tactic(auto)]
 
 mod ident;
-#[cfg(test)]
-mod tests;
 
 pub use ident::StoreId;

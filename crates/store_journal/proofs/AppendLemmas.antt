@@ -10,20 +10,20 @@ use Rattle.record_form.specs.GroupText.{IsGroup, tail_text}
 use Rattle.store_journal.specs.Text.{IsText, end_of}
 use Rattle.store_journal.specs.AtRest.{IsKeptIn, AtRest, OldOrNew}
 use Rattle.store_journal.specs.declared.store.Store.{Store}
-use Rattle.store_journal.proofs.TextLemmas.{Staged, behind_gate, is_staged, staged_long, torn_gate, opened_gate, long_enough, end-push}
+use Rattle.store_journal.proofs.TextLemmas.{Staged, after_gate, is_staged, staged_long, torn_gate, opened_gate, long_enough, end-push}
 
 -- the closed gate is there
 pub room : (store : Store) (header : Header) (groups : List (List Mutation)) (group : List Mutation) → IsGroup group → (bytes : List ℕ) → IsKeptIn store header groups bytes → store.end + 1 ≤ length bytes
 room store header groups group fits bytes kept = omega (arith, kept.gate, long_enough header groups group fits bytes kept.text)
 
 module _ (a b : View) (store : Store) (header : Header) (groups : List (List Mutation)) (group : List Mutation) (tail : List ℕ) (fits : IsGroup group) (is_tail : tail ≡ tail_text group) (rests : AtRest a store header groups) where
-  -- the write behind the gate
+  -- the write after the gate
   pub first_write : Throughout a b (After a (Moved store.file (Torn (store.end + 1) (length tail))))
       → Throughout a b (After a (Moved store.file (λ old new. OldOrNew header groups group new)))
   first_write all = weakened a b _ _ all (λ m has.
       let kept = rests has.0 has.1 in
-      let front = subst (λ (e : ℕ). take (e + 1) (m store.file) ≡ take (e + 1) (has.0 store.file)) kept.gate has.2.here.before in
-      (has.0, has.1, record { here = inl (behind_gate header groups group fits (has.0 store.file) (m store.file) kept.text front); others = has.2.others }))
+      let prefix = subst (λ (e : ℕ). take (e + 1) (m store.file) ≡ take (e + 1) (has.0 store.file)) kept.gate has.2.here.before in
+      (has.0, has.1, record { here = inl (after_gate header groups group fits (has.0 store.file) (m store.file) kept.text prefix); others = has.2.others }))
 
   -- between the two writes
   module _ (first : Throughout a b (After a (Moved store.file (Torn (store.end + 1) (length tail))))) (durable : (m : Image) → b.images m → m store.file ≡ written (a.seen store.file) (store.end + 1) tail) where
@@ -44,7 +44,7 @@ module _ (a b : View) (store : Store) (header : Header) (groups : List (List Mut
         followed_in a b c store.file _ _ (λ old new. OldOrNew header groups group new) first second
         (λ o m is torn.
         let kept = rests o is in
-        inl (behind_gate header groups group fits (o store.file) (m store.file) kept.text (subst (λ (e : ℕ). take (e + 1) (m store.file) ≡ take (e + 1) (o store.file)) kept.gate torn.before)))
+        inl (after_gate header groups group fits (o store.file) (m store.file) kept.text (subst (λ (e : ℕ). take (e + 1) (m store.file) ≡ take (e + 1) (o store.file)) kept.gate torn.before)))
         (λ o m n is mid r torn.
         let kept = rests a.seen (source m mid) in
         torn_gate header groups group fits (a.seen store.file) (m store.file) (n store.file) kept.text (stage m mid) (subst (λ (e : ℕ). Torn e 1 (m store.file) (n store.file)) kept.gate torn))

@@ -1,8 +1,8 @@
 -- The calls of a creation, over what the disk tells.
 use Rattle.std.proofs.Common.{◌≡◌, inl, inr, ⊎_elim, ℕ, List, [], ◌∷◌, take, drop, refl, ◌∙◌, ap, subst}
 use Rattle.disk_trait.specs.View.{Image, View, Tells}
-use Rattle.disk_trait.specs.Calls.{written, Torn, Shorn, Moved, Follows, Passes}
-use Rattle.disk_trait.specs.Moments.{After, Throughout, Run}
+use Rattle.disk_trait.specs.Calls.{written, Torn, Shorn, Moved, Follows, TimePasses}
+use Rattle.disk_trait.specs.Moments.{After, Throughout, CallsSoFar}
 use Rattle.disk_trait.proofs.Runs.{begun, then, then_call, weakened, holds_now, followed_in, followed_same}
 use Rattle.record_form.specs.declared.header.Header.{Header}
 use Rattle.record_form.specs.HeaderText.{IsHeader, header_text}
@@ -11,27 +11,27 @@ use Rattle.seal_gate.proofs.SealLemmas.{short_is_unsealed}
 use Rattle.store_journal.specs.Created.{IsBlank, IsFreed, IsBegun, empty_text}
 use Rattle.store_journal.proofs.CreatedLemmas.{blank_is_unsealed, stays_blank, empty_written, torn_seal}
 
--- the header and the gate are laid behind a first byte of zero
+-- the header and the gate are laid after a first byte of zero
 module _ (a : View) (file : ℕ) (blank : Each a file IsBlank) where
   -- an image of the start, in which the first byte has stayed
   abbrev Blank : Image → Type 0
   Blank = After a (Moved file (λ old new. IsBlank new))
 
-  start : Run a a Blank Blank
+  start : CallsSoFar a a Blank Blank
   start = begun a Blank Blank (λ m is. (m, is, record { here = blank m is; others = λ f ne. refl })) (λ m is. is)
 
   on : (step : List ℕ → List ℕ → Type 0) → ((old new : List ℕ) → IsBlank old → step old new → IsBlank new) → (o m : Image) → Blank o → Moved file step o m → Blank m
   on step keeps o m has moved = (has.0, has.1, record { here = keeps (o file) (m file) has.2.here moved.here; others = λ f ne. moved.others f ne ∙ has.2.others f ne })
 
-  pub cut_run : (b : View) → Passes a b → Follows (Moved file (Shorn 1)) a b → Run a b Blank Blank
+  pub cut_run : (b : View) → TimePasses a b → Follows (Moved file (Shorn 1)) a b → CallsSoFar a b Blank Blank
   cut_run b time follows = then_call a a b Blank Blank Blank (Moved file (Shorn 1)) start time follows
       (on (Shorn 1) (λ old new is shorn. stays_blank 0 old new is shorn.before)) (λ m is. is)
 
-  pub header_run : (b c : View) (size : ℕ) → Run a b Blank Blank → Passes b c → Follows (Moved file (Torn 1 size)) b c → Run a c Blank Blank
+  pub header_run : (b c : View) (size : ℕ) → CallsSoFar a b Blank Blank → TimePasses b c → Follows (Moved file (Torn 1 size)) b c → CallsSoFar a c Blank Blank
   header_run b c size so_far time follows = then_call a b c Blank Blank Blank (Moved file (Torn 1 size)) so_far time follows
       (on (Torn 1 size) (λ old new is torn. stays_blank 0 old new is torn.before)) (λ m is. is)
 
-  pub gate_run : (c d : View) → Run a c Blank Blank → Throughout c d (After c (Moved file (Torn 41 1))) → Run a d Blank Blank
+  pub gate_run : (c d : View) → CallsSoFar a c Blank Blank → Throughout c d (After c (Moved file (Torn 41 1))) → CallsSoFar a d Blank Blank
   gate_run c d so_far all = then a c d Blank Blank Blank (Moved file (Torn 41 1)) so_far all
       (on (Torn 41 1) (λ old new is torn. stays_blank 40 old new is torn.before)) (λ m is. is)
 

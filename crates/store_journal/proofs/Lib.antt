@@ -3,9 +3,9 @@ pub mod TextOnce
 pub mod StandsLemmas
 pub mod FaultLemmas
 pub mod FaultBounds
-pub mod FrontLemmas
+pub mod IdentityLemmas
 pub mod ReadLemmas
-pub mod RowLemmas
+pub mod RecordLemmas
 pub mod LoadLemmas
 mod CreatedLemmas
 mod AppendLemmas

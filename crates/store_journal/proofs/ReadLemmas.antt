@@ -3,7 +3,7 @@ use Rattle.std.proofs.Common.{◌≡◌, ℕ, ◌+◌, ◌-◌, ◌≤◌, List,
 use Rattle.std.proofs.lemmas.List.{take_at, drop_at, take_all, take-append-le}
 use borrow.Rule.Slice.PartMut.{put_mid, post_of}
 use Rattle.disk_trait.specs.View.{View, Tells}
-use Rattle.disk_trait.specs.Calls.{Same, Cause, Rose, Passes}
+use Rattle.disk_trait.specs.Calls.{Same, Cause, Rose, TimePasses}
 use Rattle.disk_trait.specs.Moments.{Throughout}
 use Rattle.disk_trait.specs.declared.DiskRefusal.{DiskRefusal}
 use Rattle.disk_trait.specs.declared.DiskRefusal.TheVariants as refusals
@@ -14,13 +14,13 @@ use Rattle.store_journal.specs.declared.fault.LoadFault.{LoadFault}
 use Rattle.store_journal.specs.declared.fault.LoadFault.TheVariants.{NoMemory}
 
 piece_read : (xs ys seen : List ℕ) (a k n : ℕ) → a ≤ length xs → n ≤ length seen - a → take a xs ≡ take a seen → take n ys ≡ take n (drop a seen) → take (a + n) (put_mid a k xs ys) ≡ take (a + n) seen
-piece_read xs ys seen a k n there within front piece =
+piece_read xs ys seen a k n there within prefix piece =
     let rest = ys ++ post_of a k xs in
     let long : length (take a xs) ≡ a = omega (arith, length-take a xs, there) in
     let enough : n ≤ length ys = omega (arith, ap length piece, length-take n ys, length-take n (drop a seen), length-drop a seen, within) in
     take_on (take a xs ++ rest) a n
     ∙ (λ i. take_at (take a xs) rest a long i ++ take n (drop_at (take a xs) rest a long i))
-    ∙ (λ i. front i ++ take-append-le n ys (post_of a k xs) enough i)
+    ∙ (λ i. prefix i ++ take-append-le n ys (post_of a k xs) enough i)
     ∙ ap (λ (l : List ℕ). take a seen ++ l) piece
     ∙ sym (take_on seen a n)
 
@@ -29,7 +29,7 @@ PieceTold r T seen a k xs ys = IfOk r (λ n. T → take a xs ≡ take a seen →
 
 pub piece_told : (T : Type 0) (r : Result ℕ DiskRefusal) (xs ys seen : List ℕ) (a k most : ℕ) → a ≤ length xs → IfOk r (λ n. T → n ≡ min most (length seen - a)) → IfOk r (λ n. T → take n ys ≡ take n (drop a seen))
     → PieceTold r T seen a k xs ys
-piece_told T (Ok n) xs ys seen a k most there count bytes = λ tells front. piece_read xs ys seen a k n there (omega (arith, count tells)) front (bytes tells)
+piece_told T (Ok n) xs ys seen a k most there count bytes = λ tells prefix. piece_read xs ys seen a k n there (omega (arith, count tells)) prefix (bytes tells)
 piece_told T (Err refusal) xs ys seen a k most there count bytes = tt
 
 -- nothing is written: by a call, and by calls in a row
@@ -37,10 +37,10 @@ pub reads_call : {T : Type 0} (a b : View) (r : Result T DiskRefusal) → Same a
 reads_call a b r same moments cause = record {
   same = same;
   moments = moments;
-  onward = record { faults = cause.later; spares = cause.spares; tells = λ tells. subst b.images (λ i f. sym (same.seen f) i) (same.no_fewer a.seen tells) };
+  onward = record { faults = cause.later; restarts = cause.restarts; spares = cause.spares; tells = λ tells. subst b.images (λ i f. sym (same.seen f) i) (same.no_fewer a.seen tells) };
 }
 
-pub reads_one : {T : Type 0} (a b : View) (r : Result T DiskRefusal) → Same a b → Passes a b → Cause a b r → OnlyReads a b
+pub reads_one : {T : Type 0} (a b : View) (r : Result T DiskRefusal) → Same a b → TimePasses a b → Cause a b r → OnlyReads a b
 reads_one a b r same time cause = reads_call a b r same (called_fewer a b time same.fewer) cause
 
 pub reads_on : {T : Type 0} (a b c : View) (r : Result T DiskRefusal) → OnlyReads a b → Same b c → Throughout b c b.images → Cause b c r → OnlyReads a c

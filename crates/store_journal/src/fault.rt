@@ -11,11 +11,11 @@ use std::alloc::{AllocError, AllocFailed};
 pub enum LoadFault {
     /// The file isn't sealed.
     NotSealed,
-    /// The file is sealed, and first leaves the form of a store of that partition at this place, from 0.
+    /// The file is sealed, and first leaves the form of a store of that partition at this offset, from 0.
     Damaged { at: u64 },
     /// The device failed, and the disk's count of faults rose in this call.
     Failed,
-    /// Want of memory, here or at the disk.
+    /// Out of memory, here or at the disk.
     NoMemory,
 }
 

@@ -1,11 +1,12 @@
-// Whether bytes are a store of a partition, and else the first place at which they aren't.
+// Whether bytes are a store of a partition, and else the first offset at which they aren't.
 ghost use Rattle.std.specs.Prelude.{◌↔◌, ◌<◌, length, MatchResult, IsTrue};
 ghost use Rattle.seal_gate.specs.Seal.{IsSealed};
-ghost use Rattle.store_journal.specs.Loading.{IsFound, IsStoreFault};
+ghost use Rattle.store_journal.specs.Loading.{IsStoreEndingAt, IsStoreFault};
 
 use crate::fault::LoadFault;
-use crate::head::{head_place, id_of};
-use crate::rows::records;
+use crate::head::{header_fault_offset, id_of};
+use crate::layout::FIRST_GATE;
+use crate::records::records;
 use cache_key::Mutation;
 use std::alloc::Global;
 use store_ident::StoreId;
@@ -19,7 +20,7 @@ pub(crate) struct Found {
 }
 
 /// Judges the seal, then the header, then record after record.
-#[tactic(auto, using(crate::proofs::LoadLemmas::head_fails, crate::proofs::LoadLemmas::rows_fail, crate::proofs::LoadLemmas::all_found))]
+#[tactic(auto, using(crate::proofs::LoadLemmas::head_fails, crate::proofs::LoadLemmas::records_fail, crate::proofs::LoadLemmas::all_found))]
 pub(crate) fn judge(
     alloc: Global,
     bytes: &[u8],
@@ -27,26 +28,26 @@ pub(crate) fn judge(
     partitions: u16,
 ) -> Result<Found, LoadFault>
     ensures judged { MatchResult result
-        (λ found. IsFound bytes.now partition partitions found.id found.mutations.items found.end × (found.end < length bytes.now))
+        (λ found. IsStoreEndingAt bytes.now partition partitions found.id found.mutations.items found.end × (found.end < length bytes.now))
         (λ fault. IsStoreFault bytes.now partition partitions fault) }
 {
     if !has_seal(bytes) {
         return Err(LoadFault::NotSealed);
     }
-    if let Some(at) = head_place(bytes, partition, partitions) {
+    if let Some(at) = header_fault_offset(bytes, partition, partitions) {
         return Err(LoadFault::Damaged { at });
     }
-    let rows = records(alloc, bytes)?;
+    let read = records(alloc, bytes)?;
     Ok(Found {
         id: id_of(bytes, partition, partitions),
-        mutations: rows.mutations,
-        end: rows.end as u64,
+        mutations: read.mutations,
+        end: read.end as u64,
     })
 }
 
-/// Whether the bytes have a seal, and a header behind it.
+/// Whether the bytes have a seal, and a header after it.
 pub(crate) fn has_seal(bytes: &[u8]) -> bool
     ensures { IsTrue result ↔ IsSealed bytes.now }
 {
-    bytes.len() >= 41 && bytes[0] != 0
+    bytes.len() >= FIRST_GATE && bytes[0] != 0
 }

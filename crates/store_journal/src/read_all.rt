@@ -22,37 +22,37 @@ pub(crate) fn read_all<D: Disk>(alloc: Global, disk: &mut D, file: u8) -> Result
 {
     let length = disk.length(file)? as usize;
     let mut bytes = vec![in alloc; 0; length]?;
-    let mut place = 0;
-    while place < length {
-        let count = read_piece(disk, file, bytes.as_mut_slice(), place)?;
+    let mut offset = 0;
+    while offset < length {
+        let count = read_piece(disk, file, bytes.as_mut_slice(), offset)?;
         if count == 0 {
             // Fewer bytes are there than the disk said.
-            bytes.truncate(place);
+            bytes.truncate(offset);
             return Ok(bytes);
         }
-        place += count;
+        offset += count;
     }
     Ok(bytes)
 }
 
-/// Reads the next piece of a file to its place in the file's bytes, and answers how long it is.
+/// Reads the next piece of a file to its offset in the file's bytes, and answers how long it is.
 fn read_piece<D: Disk>(
     disk: &mut D,
     file: u8,
     bytes: &mut [u8],
-    place: usize,
+    offset: usize,
 ) -> Result<usize, DiskRefusal>
     requires file { file ≤ 10 }
-    requires place { place < length bytes.old }
+    requires offset { offset < length bytes.old }
     ensures long { length bytes.new ≡ length bytes.old }
-    ensures within { IfOk result (λ count. place + count ≤ length bytes.old) }
+    ensures within { IfOk result (λ count. offset + count ≤ length bytes.old) }
     ensures some { IfOk result (λ count. Tells (D.view disk.old) → length bytes.old ≡ length ((D.view disk.old).seen file) → 1 ≤ count) }
-    ensures told { IfOk result (λ count. Tells (D.view disk.old) → take place bytes.old ≡ take place ((D.view disk.old).seen file)
-        → take (place + count) bytes.new ≡ take (place + count) ((D.view disk.old).seen file)) }
+    ensures told { IfOk result (λ count. Tells (D.view disk.old) → take offset bytes.old ≡ take offset ((D.view disk.old).seen file)
+        → take (offset + count) bytes.new ≡ take (offset + count) ((D.view disk.old).seen file)) }
     ensures moments { Throughout (D.view disk.old) (D.view disk.new) (D.view disk.old).images }
     ensures cause { Cause (D.view disk.old) (D.view disk.new) result }
     ensures reads_only { Same (D.view disk.old) (D.view disk.new) }
 {
-    let end = place + PIECE.min(bytes.len() - place);
-    disk.read(file, place as u64, &mut bytes[place..end])
+    let end = offset + PIECE.min(bytes.len() - offset);
+    disk.read(file, offset as u64, &mut bytes[offset..end])
 }

@@ -1,4 +1,4 @@
-// A store's file, and the place of its closed gate.
+// A store's file, and the offset of its closed gate.
 ghost use Rattle.std.specs.Prelude.{◌≡◌, ◌≢◌, ℕ, ◌+◌, ◌<◌, ◌≤◌, ◌^◌, ◌++◌, ◌∷◌, [], List, length, OnOk, OnErr, IfOk};
 ghost use Rattle.cache_key.specs.declared.request.Mutation.{Mutation};
 ghost use Rattle.disk_trait.specs.View.{Image, View, Tells};
@@ -6,17 +6,18 @@ ghost use Rattle.disk_trait.specs.Calls.{Moved, Cause};
 ghost use Rattle.disk_trait.specs.Moments.{After, Throughout};
 ghost use Rattle.record_form.specs.HeaderText.{IsHeader};
 ghost use Rattle.record_form.specs.GroupText.{IsGroup, tail_text};
-ghost use Rattle.seal_gate.specs.Seal.{IsSettled, Each};
+ghost use Rattle.seal_gate.specs.Seal.{header_end, IsSettled, Each};
 ghost use Rattle.store_journal.specs.Created.{IsBegun, empty_text};
 
-use crate::create::{FIRST_GATE, lay};
+use crate::create::lay;
 use crate::free::free;
+use crate::layout::FIRST_GATE;
 use disk_trait::{Disk, DiskRefusal, write_synced};
 use record_form::Header;
 use seal_gate::seal;
 use store_ident::StoreId;
 
-/// What opens a gate. Any byte but zero does.
+/// What opens a gate.
 const OPEN: u8 = 1;
 
 /// A store that commits go to.
@@ -26,7 +27,7 @@ pub struct Store {
     pub file: u8,
     /// Its identifier, as its header has it.
     pub id: StoreId,
-    /// The place of its closed gate, from 0.
+    /// The offset of its closed gate, from 0.
     pub end: u64,
     ghost is_file: { file ≤ 10 },
     ghost below: { end < 2 ^ 63 },
@@ -48,7 +49,7 @@ impl Store {
         // After Ok the store is durable: its file is the seal, the header and a closed gate.
         ensures created { IfOk result (λ store. AtRest (D.view disk.new) store header []) }
         ensures bytes { OnOk result (Each (D.view disk.new) file (λ bytes. bytes ≡ empty_text 1 header)) }
-        ensures store { IfOk result (λ store. (store.file ≡ file) × (store.id ≡ header.id) × (store.end ≡ 41)) }
+        ensures store { IfOk result (λ store. (store.file ≡ file) × (store.id ≡ header.id) × (store.end ≡ header_end)) }
 
         ensures moments { Throughout (D.view disk.old) (D.view disk.new) (After (D.view disk.old) (Moved file (IsBegun header))) }
         ensures cause { Cause (D.view disk.old) (D.view disk.new) result }
@@ -62,13 +63,13 @@ impl Store {
         Ok(Store {
             file,
             id: header.id,
-            end: FIRST_GATE,
+            end: FIRST_GATE as u64,
         })
     }
 
-    /// Adds a group behind the last record.
+    /// Adds a group after the last record.
     ///
-    /// `tail` is what stands behind the gate of the group's record, up to the next closed gate. A refusal leaves the
+    /// `tail` is what stands after the gate of the group's record, up to the next closed gate. A refusal leaves the
     /// store, and puts the group in flight: a stop may show it whole or not at all, so no append may follow. Takes no
     /// memory but the disk's. Four device calls: write, sync, write, sync.
     pub fn append<D: Disk>(&mut self, disk: &mut D, tail: &[u8]) -> Result<(), DiskRefusal>

@@ -1,67 +1,47 @@
-use Rattle.std.proofs.Common.{◌≡◌, ◌⊎◌, inl, inr, List, ℕ, length, subst, sym, ap, ◌∙◌, arith, false}
-use Rattle.cluster_cli.specs.Codes.{IsOfNoPlan}
-use Rattle.cluster_cli.specs.Ends.{EndsReport}
-use Rattle.cluster_cli.specs.State.{unknown, begun, up_to}
-use Rattle.cluster_cli.specs.declared.status.Status.{Status}
-use Rattle.cluster_cli.specs.declared.status.Status.TheVariants.{Done, ScriptFault, ReadFault, WriteFault, NoMemory}
-use Rattle.cluster_cli.proofs.SiteLemmas.{has_disk}
-use Rattle.cluster_cli.proofs.StatusLemmas.{done, word_fault, script_fault, read_fault, write_fault, no_memory}
-use Rattle.cluster_cli.proofs.SurvivesLemmas.{survived, ends_as}
-use Rattle.cluster_cli.proofs.WholeLemmas.{no_first_fault, completed}
+use Rattle.std.proofs.Common.{◌≡◌, ◌⊎◌, List, ℕ, Some, subst, sym, ◌∙◌}
+use Rattle.fault_count.specs.Rose.{Rose}
+use Rattle.plan_words.specs.Words.{HasNoPlan, words_of}
+use Rattle.script_loop.specs.Ends.{EndsReport}
+use Rattle.script_loop.specs.declared.status.Status.{Status}
+use Rattle.script_loop.proofs.EndsLemmas.{survived}
+use Rattle.script_loop.proofs.StatusLemmas.{same_code}
+use Rattle.cluster_cli.specs.Ends.{StatusHasCause, IsRefused}
+use Rattle.cluster_cli.specs.Sites.{ForRuns, IsLeftBy}
+use Rattle.cluster_cli.proofs.EndLemmas.{cause, completed}
 use Rattle.cluster_cli.proofs.run.run_steps.Goals as goal
 
-pub returns-clause-report : goal.returns-clause-report
-returns-clause-report g c = λ is script before old new left was disks.
-    let why = c.run_words-status.ensures in
-    let status = done _ (sym c.code.ensures ∙ is) in
-    ends_as _ (g.D.Disk.view old) (g.D.Disk.view new) script before _ _ _ Done status
-    (why.ends (λ none. subst (λ (s : Status). IsOfNoPlan s) status (why.no_plan none)) script before old new left was disks)
+pub returns-clause-cause : goal.returns-clause-cause
+returns-clause-cause g c = λ status is.
+    let why = c.run_words-ran.ensures in
+    let Reads = Rose (g.S.Source.faults c.args.source.now) (g.S.Source.faults c.run_words-ran.new.source) in
+    let Writes = Rose (g.K.Sink.faults c.args.sink.now) (g.K.Sink.faults c.run_words-ran.new.sink) in
+    subst (λ (s : Status). StatusHasCause s (HasNoPlan (words_of c.args.words.now)) Reads Writes) (same_code _ status (sym c.code.ensures ∙ is)) (cause c.run_words-ran.result.status _ _ _ why.words why.read why.write)
+
+pub returns-clause-ends : goal.returns-clause-ends
+returns-clause-ends g c = λ plan status is script left.
+    subst (λ (s : Status). ForRuns s g.D.Disk.view c.args.site c.run_words-ran.new.site (λ span. EndsReport span script (g.K.Sink.written c.args.sink.now) s (g.S.Source.left c.run_words-ran.new.source) (g.K.Sink.written c.run_words-ran.new.sink)))
+    (same_code _ status (sym c.code.ensures ∙ is)) (c.run_words-ran.ensures.ends plan script left)
 
 pub returns-clause-survives : goal.returns-clause-survives
-returns-clause-survives g c = λ planned script before old new left was disks told saved tells is.
-    let why = c.run_words-status.ensures in
-    let ends = why.ends (λ none. none planned.0 planned.1 planned.2) script before old new left was disks told saved tells is in
-    (ends.0, ends.1, survived _ _ script before c.run_words-status.result _ _ (λ e. why.words e planned.0 planned.1 planned.2) ends.2)
-
-pub returns-clause-words : goal.returns-clause-words
-returns-clause-words g c = λ is. c.run_words-status.ensures.words (word_fault _ (sym c.code.ensures ∙ is))
-
-pub returns-clause-faulty : goal.returns-clause-faulty
-returns-clause-faulty g c = λ is script before old new left was disks.
-    let why = c.run_words-status.ensures in
-    let status = script_fault _ (sym c.code.ensures ∙ is) in
-    ends_as _ (g.D.Disk.view old) (g.D.Disk.view new) script before _ _ _ ScriptFault status
-    (why.ends (λ none. subst (λ (s : Status). IsOfNoPlan s) status (why.no_plan none)) script before old new left was disks)
-
-pub returns-clause-stopped : goal.returns-clause-stopped
-returns-clause-stopped g c = λ is script before old new left was disks.
-    let why = c.run_words-status.ensures in
-    let status = read_fault _ (sym c.code.ensures ∙ is) in
-    ends_as _ (g.D.Disk.view old) (g.D.Disk.view new) script before _ _ _ ReadFault status
-    (why.ends (λ none. subst (λ (s : Status). IsOfNoPlan s) status (why.no_plan none)) script before old new left was disks)
-
-pub returns-clause-cut : goal.returns-clause-cut
-returns-clause-cut g c = λ planned which script before old new left was disks.
-    let ends = c.run_words-status.ensures.ends (λ none. none planned.0 planned.1 planned.2) script before old new left was disks in
-    elim which [
-      | inl is ↦ ends_as _ (g.D.Disk.view old) (g.D.Disk.view new) script before _ _ _ WriteFault (write_fault _ (sym c.code.ensures ∙ is)) ends
-      | inr is ↦ ends_as _ (g.D.Disk.view old) (g.D.Disk.view new) script before _ _ _ NoMemory (no_memory _ (sym c.code.ensures ∙ is)) ends
-    ]
-
-pub returns-clause-complete : goal.returns-clause-complete
-returns-clause-complete g c = λ script before commands hosts count left was plan is no_read no_write.
-    let why = c.run_words-status.ensures in
-    let planned = c.requires.site hosts count plan in
-    let many = ap (λ (names : List (List ℕ)). length names) (planned.0 ∙ plan.hosts_are) in
-    let size = c.args.site.hosts.ok.0 in
-    let old = has_disk c.args.site.lanes.items _ _ c.requires.lanes (omega (arith, planned.1, plan.partitions_are)) (omega (arith, size, many)) in
-    let new = has_disk c.run_words-status.new.site.lanes.items _ _ why.lanes (omega (arith, planned.1, plan.partitions_are)) (omega (arith, size, many)) in
-    let ends = why.ends (λ none. none hosts count plan) script before old.0 new.0 left was (record { old_is = old.1; new_is = new.1 }) false unknown (λ told. cc) tt in
-    subst (λ (n : ℕ). (n ≡ 0) ⊎ (n ≡ 5)) (sym c.code.ensures)
-    (completed _ (λ e. why.words e hosts count plan)
-    (λ e. let fault = subst (λ (s : Status). EndsReport c.args.site.hosts.items (up_to (begun false unknown ends.0) (g.D.Disk.view new.0)) script before s (g.S.Source.left c.run_words-status.new.source) (g.K.Sink.written c.run_words-status.new.sink)) e ends.2 in
-    no_first_fault script commands fault.n fault.commands is fault.faulty)
-    (λ e. no_read (why.read e)) (λ e. no_write (why.write e)))
+returns-clause-survives g c = λ plan status is script left.
+    let why = c.run_words-ran.ensures in
+    let same = same_code _ status (sym c.code.ensures ∙ is) in
+    let ends = subst (λ (s : Status). ForRuns s g.D.Disk.view c.args.site c.run_words-ran.new.site (λ span. EndsReport span script (g.K.Sink.written c.args.sink.now) s (g.S.Source.left c.run_words-ran.new.source) (g.K.Sink.written c.run_words-ran.new.sink)))
+    same (why.ends plan script left) in
+    λ old new disks tells files does hold.
+    let here = ends old new disks tells files does hold in
+    (here.0, here.1, here.2, here.3, survived _ script _ status _ _ (λ e. plan (why.words (same ∙ e))) here.4)
 
 pub returns-clause-kept : goal.returns-clause-kept
-returns-clause-kept g c = λ planned old new disks. c.run_words-status.ensures.kept (λ none. none planned.0 planned.1 planned.2) old new disks
+returns-clause-kept g c = λ plan status is.
+    subst (λ (s : Status). ForRuns s g.D.Disk.view c.args.site c.run_words-ran.new.site (IsLeftBy s)) (same_code _ status (sym c.code.ensures ∙ is)) (c.run_words-ran.ensures.kept plan)
+
+pub returns-clause-refused : goal.returns-clause-refused
+returns-clause-refused g c = λ none status is.
+    subst (λ (s : Status). IsRefused s (g.K.Sink.written c.args.sink.now) (g.K.Sink.written c.run_words-ran.new.sink) c.args.site c.run_words-ran.new.site) (same_code _ status (sym c.code.ensures ∙ is)) (c.run_words-ran.ensures.refused none)
+
+pub returns-clause-complete : goal.returns-clause-complete
+returns-clause-complete g c = λ plan script commands left is no_read no_write.
+    let why = c.run_words-ran.ensures in
+    subst (λ (n : ℕ). (n ≡ 0) ⊎ (n ≡ 5)) (sym c.code.ensures)
+    (completed _ (λ e. plan (why.words e)) (why.complete plan script commands left is) (λ e. no_read (why.read e)) (λ e. no_write (why.write e)))

@@ -1,56 +1,62 @@
-use Rattle.std.proofs.Common.{◌≡◌, ◌≤◌, refl, List, ℕ, sym, subst, ap, Err, arith}
-use Rattle.cluster_cli.specs.Ends.{EndsReport, From}
-use Rattle.cluster_cli.specs.Kept.{IsLeft}
-use Rattle.cluster_cli.specs.State.{State, begun, up_to}
-use Rattle.cluster_cli.proofs.SiteLemmas.{disk_is, disk_put, unchanged_disk, left_at_start}
-use Rattle.cluster_cli.proofs.CutLemmas.{begins_none, cut_front, cut_at_start}
-use Rattle.cluster_cli.proofs.OnwardLemmas.{out_at_start}
-use Rattle.cluster_cli.specs.Breaks.{RunsOut}
+use Rattle.std.proofs.Common.{◌≡◌, ◌≤◌, refl, inl, List, ℕ, sym, subst, ap, Err, arith}
+use Rattle.report_lines.specs.declared.fault.Fault.TheVariants.{Words}
+use Rattle.script_loop.specs.Ends.{EndsReport}
+use Rattle.script_loop.specs.declared.status.Status.TheVariants.{NoMemory}
+use Rattle.script_loop.proofs.EndsLemmas.{nothing_reported, ends_at_start, run_at_start}
+use Rattle.cluster_cli.specs.OnDisk.{DiskIsIn}
+use Rattle.cluster_cli.specs.Sites.{FromStart, IsLeftBy, run_on}
+use Rattle.cluster_cli.specs.State.{State, begun}
+use Rattle.cluster_cli.proofs.SiteLemmas.{disk_is, disk_put, unchanged_disk, left_at_start, for_disk}
 use Rattle.cluster_cli.proofs.run.run_words.Goals as goal
 
-pub returns-in-Err-Words-clause-words : goal.returns-in-Err-Words-clause-words
-returns-in-Err-Words-clause-words g c = λ is. c.in-Err-Words.ensures.words (ap Err c.in-Err-Words.field-0-is)
-
-pub returns-in-Err-Words-clause-ends : goal.returns-in-Err-Words-clause-ends
-returns-in-Err-Words-clause-ends g c = λ planned script before old new left was disks. absurd (planned (c.in-Err-Words.ensures.words (ap Err c.in-Err-Words.field-0-is)))
-
-pub returns-in-Err-NoMemory-clause-ends : goal.returns-in-Err-NoMemory-clause-ends
-returns-in-Err-NoMemory-clause-ends g c = λ planned script before old new left was disks told saved tells is.
-    let faults = (g.D.Disk.view old).faults in
-    let same : faults ≤ faults = omega arith in
-    let disk : new ≡ old = unchanged_disk c.args.site.now.lanes.items old new disks in
-    let unmoved : IsLeft (g.D.Disk.view new) (begun told saved faults) = subst (λ (d : g.row.D.Denot). IsLeft (g.D.Disk.view d) (begun told saved faults)) (sym disk) (left_at_start told saved (g.D.Disk.view old) is) in
-    (faults, same, cut_front _ _ script before (g.S.Source.left c.args.source.now) _ (cut_at_start _ (begun told saved faults) (g.D.Disk.view new) script before _ _ unmoved was (λ bytes told. told)))
-
-pub returns-in-Err-NoMemory-clause-cut_words : goal.returns-in-Err-NoMemory-clause-cut_words
-returns-in-Err-NoMemory-clause-cut_words g c = λ none. begins_none _ _
-
 pub returns-clause-ends : goal.returns-clause-ends
-returns-clause-ends g c = λ planned script before old new left was disks.
-    let same = disk_is _ _ old _ c.index_mut.ensures.value c.index_mut-2.ensures.value disks.old_is in
-    let put : new ≡ c.run_plan.new.disk = disk_put _ _ c.index_mut.result.now.disks.items _ new refl disks.new_is in
+returns-clause-ends g c = λ plan script left old new disks.
+    let finish = c.run_plan-finish in
     let view = g.D.Disk.view in
-    let ends = c.run_plan.ensures.ends script before left was in
-    subst (λ (disk : g.row.D.Denot). From (view disk) (λ (first : State). EndsReport c.args.site.now.hosts.items (up_to first (view new)) script before c.run_plan.result (g.S.Source.left c.run_plan.new.source) (g.K.Sink.written c.run_plan.new.sink))) (sym same)
-    (subst (λ (disk : g.row.D.Denot). From (view c.index_mut-2.result.now) (λ (first : State). EndsReport c.args.site.now.hosts.items (up_to first (view disk)) script before c.run_plan.result (g.S.Source.left c.run_plan.new.source) (g.K.Sink.written c.run_plan.new.sink))) (sym put)
-    (subst (λ (hosts : List (List ℕ)). From (view c.index_mut-2.result.now) (λ (first : State). EndsReport hosts (up_to first (view c.run_plan.new.disk)) script before c.run_plan.result (g.S.Source.left c.run_plan.new.source) (g.K.Sink.written c.run_plan.new.sink))) c.deref.ensures.value ends))
-
-pub returns-in-Err-Words-clause-kept : goal.returns-in-Err-Words-clause-kept
-returns-in-Err-Words-clause-kept g c = λ planned old new disks. absurd (planned (c.in-Err-Words.ensures.words (ap Err c.in-Err-Words.field-0-is)))
-
-pub returns-in-Err-NoMemory-clause-kept : goal.returns-in-Err-NoMemory-clause-kept
-returns-in-Err-NoMemory-clause-kept g c = λ planned old new disks told saved tells is.
-    let faults = (g.D.Disk.view old).faults in
-    let same : faults ≤ faults = omega arith in
-    let disk : new ≡ old = unchanged_disk c.args.site.now.lanes.items old new disks in
-    let unmoved : IsLeft (g.D.Disk.view new) (begun told saved faults) = subst (λ (d : g.row.D.Denot). IsLeft (g.D.Disk.view d) (begun told saved faults)) (sym disk) (left_at_start told saved (g.D.Disk.view old) is) in
-    (faults, same, out_at_start _ (begun told saved faults) _ unmoved)
+    for_disk finish.result.status view c.args.site.now.hosts.items old new c.index_mut-2.result.now finish.new.disk
+    (λ span. EndsReport span script (g.K.Sink.written c.args.sink.now) finish.result.status (g.S.Source.left finish.new.source) (g.K.Sink.written finish.new.sink))
+    (disk_is _ _ old _ c.index_mut.ensures.value c.index_mut-2.ensures.value disks.old_is)
+    (disk_put _ _ c.index_mut.result.now.disks.items _ new refl disks.new_is)
+    (subst (λ (hosts : List (List ℕ)). FromStart finish.result.status (view c.index_mut-2.result.now)
+    (λ (first : State). EndsReport (run_on hosts first (view finish.new.disk)) script (g.K.Sink.written c.args.sink.now) finish.result.status (g.S.Source.left finish.new.source) (g.K.Sink.written finish.new.sink)))
+    c.deref.ensures.value (finish.ensures.ends script left))
 
 pub returns-clause-kept : goal.returns-clause-kept
-returns-clause-kept g c = λ planned old new disks.
-    let same = disk_is _ _ old _ c.index_mut.ensures.value c.index_mut-2.ensures.value disks.old_is in
-    let put : new ≡ c.run_plan.new.disk = disk_put _ _ c.index_mut.result.now.disks.items _ new refl disks.new_is in
+returns-clause-kept g c = λ plan old new disks.
+    let finish = c.run_plan-finish in
     let view = g.D.Disk.view in
-    subst (λ (disk : g.row.D.Denot). From (view disk) (λ (first : State). RunsOut c.args.site.now.hosts.items first (view new))) (sym same)
-    (subst (λ (disk : g.row.D.Denot). From (view c.index_mut-2.result.now) (λ (first : State). RunsOut c.args.site.now.hosts.items first (view disk))) (sym put)
-    (subst (λ (hosts : List (List ℕ)). From (view c.index_mut-2.result.now) (λ (first : State). RunsOut hosts first (view c.run_plan.new.disk))) c.deref.ensures.value c.run_plan.ensures.kept))
+    for_disk finish.result.status view c.args.site.now.hosts.items old new c.index_mut-2.result.now finish.new.disk (IsLeftBy finish.result.status)
+    (disk_is _ _ old _ c.index_mut.ensures.value c.index_mut-2.ensures.value disks.old_is)
+    (disk_put _ _ c.index_mut.result.now.disks.items _ new refl disks.new_is)
+    (subst (λ (hosts : List (List ℕ)). FromStart finish.result.status (view c.index_mut-2.result.now) (λ (first : State). IsLeftBy finish.result.status (run_on hosts first (view finish.new.disk))))
+    c.deref.ensures.value finish.ensures.kept)
+
+pub returns-in-Err-Words-clause-words : goal.returns-in-Err-Words-clause-words
+returns-in-Err-Words-clause-words g c = λ is. c.in-Err-Words.ensures.words c.in-Err-Words.reason (ap Err c.in-Err-Words.field-0-is)
+
+pub returns-in-Err-Words-clause-ends : goal.returns-in-Err-Words-clause-ends
+returns-in-Err-Words-clause-ends g c = λ plan script left old new disks. absurd (plan (c.in-Err-Words.ensures.words c.in-Err-Words.reason (ap Err c.in-Err-Words.field-0-is)))
+
+pub returns-in-Err-Words-clause-kept : goal.returns-in-Err-Words-clause-kept
+returns-in-Err-Words-clause-kept g c = λ plan old new disks. absurd (plan (c.in-Err-Words.ensures.words c.in-Err-Words.reason (ap Err c.in-Err-Words.field-0-is)))
+
+pub returns-in-Err-NoMemory-clause-refused : goal.returns-in-Err-NoMemory-clause-refused
+returns-in-Err-NoMemory-clause-refused g c = λ none. record { written = nothing_reported Words _; untouched = refl }
+
+pub returns-in-Err-NoMemory-clause-ends : goal.returns-in-Err-NoMemory-clause-ends
+returns-in-Err-NoMemory-clause-ends g c = λ plan script left old new disks tells files does hold.
+    let view = g.D.Disk.view in
+    let disk : new ≡ old = unchanged_disk c.args.site.now.lanes.items old new disks in
+    let first = begun tells files (view old).faults (view old).restarts in
+    let unmoved : DiskIsIn (view new) first = subst (λ (d : g.row.D.Denot). DiskIsIn (view d) first) (sym disk) (left_at_start tells files (view old) hold) in
+    let same : (view old).faults ≤ (view old).faults = omega arith in
+    ((view old).faults, (view old).restarts, same, inl refl, ends_at_start (run_on c.args.site.now.hosts.items first (view new)) script _ _ unmoved)
+
+pub returns-in-Err-NoMemory-clause-kept : goal.returns-in-Err-NoMemory-clause-kept
+returns-in-Err-NoMemory-clause-kept g c = λ plan old new disks tells files does hold.
+    let view = g.D.Disk.view in
+    let disk : new ≡ old = unchanged_disk c.args.site.now.lanes.items old new disks in
+    let first = begun tells files (view old).faults (view old).restarts in
+    let unmoved : DiskIsIn (view new) first = subst (λ (d : g.row.D.Denot). DiskIsIn (view d) first) (sym disk) (left_at_start tells files (view old) hold) in
+    let same : (view old).faults ≤ (view old).faults = omega arith in
+    ((view old).faults, (view old).restarts, same, inl refl, run_at_start (run_on c.args.site.now.hosts.items first (view new)) unmoved)

@@ -2,7 +2,7 @@ use Rattle.std.proofs.Common.{◌≡◌, ◌⊎◌, sym, ◌∙◌, subst}
 use Rattle.std.proofs.lemmas.Result.{err_from_is_err_and}
 use Rattle.newest_store.specs.declared.fault.NewestFault.{NewestFault}
 use Rattle.newest_store.specs.declared.fault.NewestFault.TheVariants.{Failed, NoMemory}
-use Rattle.newest_store.proofs.SearchLemmas.{reads_told, clear_told, whole_is_found, store_contents, survives_reads, survives_clear, one_is_left}
+use Rattle.newest_store.proofs.SearchLemmas.{reads_told, clear_told, whole_is_found, store_contents, survives_reads, survives_clear, unsealed_clear, one_is_left}
 use Rattle.newest_store.proofs.newest.load_newest.Goals as goal
 
 pub returns-in_err-loaded-clause-whole : goal.returns-in_err-loaded-clause-whole
@@ -45,3 +45,14 @@ returns-in_err-clear-clause-blank g c = λ tells none. let newest = c.in_ok-load
 
 pub returns-clause-blank : goal.returns-clause-blank
 returns-clause-blank g c = λ tells none. let newest = c.in_ok-loaded.ensures.loaded.newest tells in absurd (none _ newest.one_of_two newest.sealed)
+
+pub returns-in_err-loaded-clause-unsealed : goal.returns-in_err-loaded-clause-unsealed
+returns-in_err-loaded-clause-unsealed g c file within now = survives_reads _ _ _ c.load_found.ensures.reads_only now
+
+pub returns-in_err-clear-clause-unsealed : goal.returns-in_err-clear-clause-unsealed
+returns-in_err-clear-clause-unsealed g c file within now =
+    unsealed_clear _ _ _ _ _ _ _ file c.requires.first c.requires.second c.load_found.ensures.reads_only c.in_ok-loaded.ensures.loaded c.clear.ensures.moments c.clear.ensures.unsealed_moments within now
+
+pub returns-clause-unsealed : goal.returns-clause-unsealed
+returns-clause-unsealed g c file within now =
+    unsealed_clear _ _ _ _ _ _ _ file c.requires.first c.requires.second c.load_found.ensures.reads_only c.in_ok-loaded.ensures.loaded c.clear.ensures.moments c.clear.ensures.unsealed_moments within now

@@ -5,7 +5,7 @@ use Rattle.serde_json.specs.View.{members_view}
 use Rattle.report_lines.proofs.Members.{listed, cache_data, put-listed_next, listed_all, caches_data-listed}
 use Rattle.report_lines.proofs.contents.caches_members.Goals as goal
 
--- this cache goes behind those so far
+-- this cache goes after those so far
 pub loop-name-preserved : goal.loop-name-preserved
 loop-name-preserved c =
     let done = c.loop-name.invariant.0 in

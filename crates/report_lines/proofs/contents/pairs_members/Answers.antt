@@ -4,7 +4,7 @@ use Rattle.serde_json.specs.View.{members_view}
 use Rattle.report_lines.proofs.Members.{listed, put-listed_next, listed_all, pairs_data-listed}
 use Rattle.report_lines.proofs.contents.pairs_members.Goals as goal
 
--- this pair goes behind those so far
+-- this pair goes after those so far
 pub loop-key-preserved : goal.loop-key-preserved
 loop-key-preserved c =
     let done = c.loop-key.invariant.0 in

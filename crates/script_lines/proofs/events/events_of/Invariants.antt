@@ -4,5 +4,5 @@ use Rattle.serde_json.specs.View.{items_view}
 use Rattle.script_lines.specs.Reading.{AreEventsIn}
 use Rattle.script_lines.proofs.events.events_of.Given as goal
 
-abbrev pub invariant-loop-item : goal.invariant-loop-item
-invariant-loop-item l = AreEventsIn (items_view (take l.item-index l.item-items)) l.events.items
+abbrev pub invariant-loop-index : goal.invariant-loop-index
+invariant-loop-index l = AreEventsIn (items_view (take l.index l.item-items)) l.events.items

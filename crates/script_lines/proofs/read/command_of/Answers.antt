@@ -1,4 +1,4 @@
--- The members that were found are all, and stand in their order.
+-- The members that were found are all of them, and stand in order.
 use Rattle.std.proofs.Common.{◌≡◌, refl, sym, subst, arith, codes, Some}
 use Rattle.serde_json.specs.Data.{string}
 use Rattle.serde_json.specs.Find.{get}

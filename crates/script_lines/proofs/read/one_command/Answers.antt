@@ -1,4 +1,4 @@
--- The data of a line is one, and the form of a command tells the command.
+-- A line has one value, and a value is at most one command.
 use Rattle.script_lines.proofs.FormLemmas.{one_of_a_line}
 use Rattle.script_lines.proofs.read.one_command.Goals as goal
 

@@ -1,4 +1,4 @@
--- Where the list hasn't one item, it isn't that of one host.
+-- A list with another number of items than 1 is not the list of one host.
 use Rattle.std.proofs.Common.{◌≡◌, sym, ap, ◌∙◌, arith}
 use Rattle.serde_json.specs.Data.{string, array}
 use Rattle.serde_json.specs.View.{view, items_view}

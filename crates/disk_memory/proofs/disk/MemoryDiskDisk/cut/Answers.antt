@@ -39,7 +39,7 @@ pub returns-clause-cause : goal.returns-clause-cause
 returns-clause-cause c =
     let old = c.args.self.now.medium in
     let new = c.cut.new.self in
-    answered_cause old.pick new.pick (logged old.log) (logged new.log) _ _ _ _ c.next_fails-fails.result _ c.answered.ensures.faults c.answered.ensures.answer
+    answered_cause old.pick new.pick (logged old.log) (logged new.log) _ _ _ _ _ c.next_fails-fails.result _ c.answered.ensures.faults c.answered.ensures.answer
 
 pub returns-in_err-cut-clause-others_stay : goal.returns-in_err-cut-clause-others_stay
 unfolding KeepsOthers

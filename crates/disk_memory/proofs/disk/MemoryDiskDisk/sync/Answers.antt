@@ -8,7 +8,7 @@ use Rattle.disk_memory.proofs.disk.MemoryDiskDisk.sync.Goals as goal
 pub returns-then-next_fails-clause-cause : goal.returns-then-next_fails-clause-cause
 returns-then-next_fails-clause-cause c =
     let old = c.args.self.now.medium in
-    answered_cause old.pick old.pick (logged old.log) (logged old.log) _ _ _ _ true _ c.answered.ensures.faults c.answered.ensures.answer
+    answered_cause old.pick old.pick (logged old.log) (logged old.log) _ _ _ _ _ true _ c.answered.ensures.faults c.answered.ensures.answer
 
 pub returns-clause-durable : goal.returns-clause-durable
 returns-clause-durable c =

@@ -8,13 +8,13 @@ use Rattle.disk_memory.proofs.disk.MemoryDiskDisk.write_at.Goals as goal
 pub returns-then-is_too_long-clause-cause : goal.returns-then-is_too_long-clause-cause
 returns-then-is_too_long-clause-cause c =
     let old = c.args.self.now.medium in
-    answered_cause old.pick old.pick (logged old.log) (logged old.log) _ _ _ _ true _ c.answered.ensures.faults c.answered.ensures.answer
+    answered_cause old.pick old.pick (logged old.log) (logged old.log) _ _ _ _ _ true _ c.answered.ensures.faults c.answered.ensures.answer
 
 pub returns-clause-written : goal.returns-clause-written
 returns-clause-written c =
     let old = c.args.self.now.medium in
     let new = c.write.new.self in
-    on_ok_after _ _ _ (write_reads old.pick new.pick c.write.ensures.pick (logged old.log) (logged new.log) c.args.file c.args.at c.args.bytes.now c.in_ok-write.ensures.ok (c.requires.place old.told))
+    on_ok_after _ _ _ (write_reads old.pick new.pick c.write.ensures.pick (logged old.log) (logged new.log) c.args.file c.args.at c.args.bytes.now c.in_ok-write.ensures.ok (c.requires.offset old.seen_is_image))
 
 pub returns-clause-others : goal.returns-clause-others
 returns-clause-others c =
@@ -26,7 +26,7 @@ pub returns-clause-images : goal.returns-clause-images
 returns-clause-images c =
     let old = c.args.self.now.medium in
     let new = c.write.new.self in
-    write_images old.pick new.pick c.write.ensures.pick (logged old.log) (logged new.log) c.args.file c.args.at c.args.bytes.now c.in_ok-write.ensures.ok (c.requires.place old.told)
+    write_images old.pick new.pick c.write.ensures.pick (logged old.log) (logged new.log) c.args.file c.args.at c.args.bytes.now c.in_ok-write.ensures.ok (c.requires.offset old.seen_is_image)
 
 pub returns-clause-time : goal.returns-clause-time
 returns-clause-time c =
@@ -38,7 +38,7 @@ pub returns-clause-cause : goal.returns-clause-cause
 returns-clause-cause c =
     let old = c.args.self.now.medium in
     let new = c.write.new.self in
-    answered_cause old.pick new.pick (logged old.log) (logged new.log) _ _ _ _ c.next_fails-fails.result _ c.answered-2.ensures.faults c.answered-2.ensures.answer
+    answered_cause old.pick new.pick (logged old.log) (logged new.log) _ _ _ _ _ c.next_fails-fails.result _ c.answered-2.ensures.faults c.answered-2.ensures.answer
 
 pub returns-then-is_too_long-clause-others_stay : goal.returns-then-is_too_long-clause-others_stay
 unfolding KeepsOthers

@@ -1,8 +1,8 @@
 use Rattle.std.proofs.Common.{◌≡◌, ◌∙◌, ap, subst, sym, List, [], ◌∷◌, ◌++◌}
-use Rattle.disk_memory.specs.Change.{Change, Trimmed}
+use Rattle.disk_memory.specs.DiskCall.{DiskCall, CutCall}
 use Rattle.disk_memory.specs.Logged.{logged}
 use Rattle.disk_memory.specs.Mirrored.{AllMirror}
-use Rattle.disk_memory.proofs.ToldLemmas.{told}
+use Rattle.disk_memory.proofs.MemoryViewLemmas.{seen_is_image}
 use Rattle.disk_memory.proofs.medium.Medium.cut.Goals as goal
 
 pub invariant_of-self-in-Break-branch-2 : goal.invariant_of-self-in-Break-branch-2
@@ -11,17 +11,17 @@ invariant_of-self-in-Break-branch-2 c =
     let old = logged self.log in
     record {
       eleven = c.cut_one.ensures.count ∙ self.eleven;
-      mirrors = subst (λ (l : List Change). AllMirror self.pick l c.cut_one.new.files.items) (sym c.make_room.ensures.unchanged) (c.in_err-cut_one.ensures.err old self.mirrors);
-      told = told self.pick (logged c.make_room.new.self);
+      mirrors = subst (λ (l : List DiskCall). AllMirror self.pick l c.cut_one.new.files.items) (sym c.make_room.ensures.unchanged) (c.in_err-cut_one.ensures.err old self.mirrors);
+      seen_is_image = seen_is_image self.pick (logged c.make_room.new.self);
     }
 
 pub invariant_of-self-2 : goal.invariant_of-self-2
 invariant_of-self-2 c =
     let self = c.args.self.now in
     let old = logged self.log in
-    let is : logged c.add.new.self ≡ old ++ Trimmed c.args.file c.args.to ∷ [] = c.add.ensures ∙ ap (λ (l : List Change). l ++ Trimmed c.args.file c.args.to ∷ []) c.make_room.ensures.unchanged in
+    let is : logged c.add.new.self ≡ old ++ CutCall c.args.file c.args.to ∷ [] = c.add.ensures ∙ ap (λ (l : List DiskCall). l ++ CutCall c.args.file c.args.to ∷ []) c.make_room.ensures.unchanged in
     record {
       eleven = c.cut_one.ensures.count ∙ self.eleven;
       mirrors = c.in_ok-cut_one.ensures.ok old (logged c.add.new.self) is self.mirrors;
-      told = told self.pick (logged c.add.new.self);
+      seen_is_image = seen_is_image self.pick (logged c.add.new.self);
     }

@@ -1,0 +1,10 @@
+pub mod Chain
+pub mod Codes
+pub mod Ends
+pub mod Faults
+pub mod Halts
+pub mod Kinds
+pub mod Lines
+pub mod Progress
+pub mod Report
+pub mod Script

@@ -16,9 +16,10 @@ use Rattle.script_lines.specs.declared.command.Event.TheVariants.{Call}
 use Rattle.script_lines.specs.declared.answer.Answer.{Answer}
 use Rattle.script_lines.specs.declared.answer.Outcome.{Outcome}
 use Rattle.script_lines.specs.declared.answer.Outcome.TheVariants.{Replied, Refused}
-use Rattle.cluster_cli.specs.State.{OpenCluster, KnownFiles, unknown, no_store, store_in, Stage, closed, opened, failing, files_at, State, EventChange, EventRun, OpenStep, ClosedStep, StageStep, Run, first_store, made_at}
+use Rattle.cluster_commands.specs.State.{OpenCluster, KnownFiles, unknown, no_store, store_in, Stage, closed, opened, failing, files_at, State, EventChange, EventRun, OpenStep, ClosedStep, StageStep, first_store, made_at}
+use Rattle.answer_laws.specs.Run.{Run}
 use Rattle.answer_laws.specs.Answered.{change_done, changes_done, changes_with, changes_since, changes_answered, IsCreated, HasCreated}
-use Rattle.cluster_cli.specs.OnDisk.{FilesHold, HasFirstStore}
+use Rattle.cluster_commands.specs.OnDisk.{FilesHold, HasFirstStore}
 
 -- ---- counts
 

@@ -14,7 +14,8 @@ use Rattle.script_lines.specs.declared.answer.Answer.{Answer}
 use Rattle.script_lines.specs.declared.answer.Outcome.{Outcome}
 use Rattle.script_lines.specs.declared.answer.Outcome.TheVariants.{Replied, Refused}
 use Rattle.script_lines.specs.declared.answer.Refusal.{Refusal}
-use Rattle.cluster_cli.specs.State.{OpenCluster, KnownFiles, unknown, no_store, store_in, Stage, closed, opened, failing, files_at, State, EventChange, EventRun, OpenStep, ClosedStep, StageStep, Run, IsAsKnown}
+use Rattle.cluster_commands.specs.State.{OpenCluster, KnownFiles, unknown, no_store, store_in, Stage, closed, opened, failing, files_at, State, EventChange, EventRun, OpenStep, ClosedStep, StageStep, IsAsKnown}
+use Rattle.answer_laws.specs.Run.{Run}
 use Rattle.answer_laws.specs.AnswersAllow.{RefusedKeeps, EventKeeps, EventsKeep, CommandLeaves, AnswersLeave, MayHave}
 
 -- ---- events

@@ -13,7 +13,7 @@ use Rattle.script_lines.specs.declared.answer.Outcome.TheVariants.{Replied, Refu
 use Rattle.script_lines.specs.declared.answer.Refusal.{Refusal}
 use Rattle.script_lines.specs.declared.answer.Refusal.TheVariants.{Closed, Open, NotMember, NotCreated, Fault, Damaged}
 use Rattle.answer_laws.specs.Answered.{events_of}
-use Rattle.cluster_cli.specs.State.{KnownFiles, unknown, no_store, store_in}
+use Rattle.cluster_commands.specs.State.{KnownFiles, unknown, no_store, store_in}
 
 -- Changes that are refused aren't kept; those under which the disk failed may be, all of them or none.
 abbrev pub RefusedKeeps : Refusal → List Change → List Change → Type 0

@@ -4,10 +4,11 @@ ghost use Rattle.cache_model.specs.Change.{Change};
 ghost use Rattle.fault_count.specs.Rose.{Rose};
 ghost use Rattle.script_lines.specs.declared.command.Command.{Command};
 ghost use Rattle.script_lines.specs.declared.answer.Answer.{Answer};
-ghost use Rattle.cluster_cli.specs.State.{State, Run, files_at};
+ghost use Rattle.cluster_commands.specs.State.{State, files_at};
+ghost use Rattle.answer_laws.specs.Run.{Run};
 ghost use Rattle.answer_laws.specs.Answered.{HasCreated, changes_answered};
 ghost use Rattle.answer_laws.specs.AnswersAllow.{AnswersLeave, MayHave};
-ghost use Rattle.cluster_cli.specs.OnDisk.{DiskIsIn, HasFirstStore};
+ghost use Rattle.cluster_commands.specs.OnDisk.{DiskIsIn, HasFirstStore};
 
 use disk_trait::Disk;
 

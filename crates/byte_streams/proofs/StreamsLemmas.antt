@@ -34,14 +34,6 @@ no_prefix old text = record { prefix = []; rest = text; text_is = refl; added = 
 pub adds_joined : (old mid new : Option (List ℕ)) (a b : List ℕ) → Adds old a mid → Adds mid b new → Adds old (a ++ b) new
 adds_joined old mid new a b first then_ = λ bytes is. then_ (bytes ++ a) (first bytes is) ∙ ap (λ (l : List ℕ). Some l) (append_assoc bytes a b)
 
-pub prefix_joined : (old mid new : Option (List ℕ)) (a b : List ℕ) → Adds old a mid → AddsPrefix mid b new → AddsPrefix old (a ++ b) new
-prefix_joined old mid new a b first then_ = record {
-  prefix = a ++ then_.prefix;
-  rest = then_.rest;
-  text_is = ap (λ (l : List ℕ). a ++ l) then_.text_is ∙ sym (append_assoc a then_.prefix then_.rest);
-  added = adds_joined old mid new a then_.prefix first then_.added;
-}
-
 pub whole_prefix : (old new : Option (List ℕ)) (text : List ℕ) → Adds old text new → AddsPrefix old text new
 whole_prefix old new text added = record { prefix = text; rest = []; text_is = sym (append-nil text); added = added }
 

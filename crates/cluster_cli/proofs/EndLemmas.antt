@@ -6,7 +6,7 @@ use Rattle.script_loop.specs.declared.status.Status.{Status}
 use Rattle.script_loop.specs.declared.status.Status.TheVariants.{Done, WordFault, ScriptFault, ReadFault, WriteFault, NoMemory}
 use Rattle.cluster_cli.specs.Ends.{StatusHasCause}
 use Rattle.cluster_cli.specs.Sites.{IsLeftBy}
-use Rattle.cluster_cli.specs.State.{State}
+use Rattle.cluster_commands.specs.State.{State}
 
 pub cause : (status : Status) (no_plan read write : Type 0) → (status ≡ WordFault → no_plan) → (status ≡ ReadFault → read) → (status ≡ WriteFault → write) → StatusHasCause status no_plan read write
 cause Done no_plan read write words source sink = tt

@@ -1,6 +1,3 @@
-mod CommandLemmas
 mod EndLemmas
-mod EventLemmas
 mod MachineLemmas
 mod SiteLemmas
-mod StoredLemmas

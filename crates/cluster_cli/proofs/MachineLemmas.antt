@@ -4,11 +4,11 @@ use Rattle.disk_trait.specs.View.{View}
 use Rattle.script_lines.specs.declared.command.Command.{Command}
 use Rattle.script_lines.specs.declared.answer.Answer.{Answer}
 use Rattle.script_loop.specs.Chain.{Answers, Breaks, between, Refines}
-use Rattle.cluster_cli.specs.Breaks.{IsCarriedOut, IsBrokenOff, Carries, BreaksOff}
-use Rattle.cluster_cli.specs.OnDisk.{IsInState, DiskIsIn}
+use Rattle.cluster_commands.specs.Breaks.{IsCarriedOut, IsBrokenOff, Carries, BreaksOff}
+use Rattle.cluster_commands.specs.OnDisk.{IsInState, DiskIsIn}
 use Rattle.cluster_cli.specs.Sites.{run_on}
-use Rattle.cluster_cli.specs.State.{State}
-use Rattle.cluster_cli.specs.declared.cluster.Cluster.{Cluster}
+use Rattle.cluster_commands.specs.State.{State}
+use Rattle.cluster_commands.specs.declared.cluster.Cluster.{Cluster}
 
 -- what the code and the disk are in, the disk is in
 pub disk_is_in : (cluster : Cluster) (v : View) (state : State) → IsInState cluster v state → DiskIsIn v state

@@ -16,12 +16,13 @@ StatusHasCause ReadFault no_plan read write = read
 StatusHasCause WriteFault no_plan read write = write
 StatusHasCause NoMemory no_plan read write = Unit {0}
 
--- the words have a plan
+-- the arguments have a plan
 abbrev pub HasPlan : List (List ℕ) → Type 0
 HasPlan words = HasNoPlan words → ⊥
 
--- How a run ends whose words have no plan: with status 1 the line that says so was written whole, and else a part of it,
--- since the sink failed or memory ran out; nothing of the site is touched.
-pub record IsRefused {D V : Type 0} (status : Status) (old new : Option (List ℕ)) (site after : Site D V) : Type 0 where
+-- How a run ends whose arguments have no plan: with status 1 the line that says so was written whole, and else a part of it,
+-- since the sink failed or memory ran out. Nothing is read of the source, and nothing of the site is touched.
+pub record IsRefused {D V : Type 0} (status : Status) (left rest old new : Option (List ℕ)) (site after : Site D V) : Type 0 where
   pub written : ReportsFault Words old status new
+  pub unread : rest ≡ left
   pub untouched : after ≡ site

@@ -1,15 +1,16 @@
 -- The disks of a site, and what holds of a run on them.
 use Rattle.std.specs.Prelude.{◌≡◌, ◌⊎◌, ℕ, ◌≤◌, List, [], ◌∷◌, length, vec_len, Option, Some, None, Bool, IsTrue}
 use Rattle.std.specs.List.{AllByRecursion}
-use Rattle.fault_count.specs.Rose.{Rose}
+use Rattle.fault_count.specs.OneMore.{IsOneMore}
 use Rattle.disk_trait.specs.View.{View, Tells}
+use Rattle.disk_trait.specs.Calls.{Same}
 use Rattle.disk_trait.specs.Moments.{Later}
 use Rattle.script_loop.specs.Chain.{Span, unbroken, IsRun}
 use Rattle.script_loop.specs.declared.status.Status.{Status}
 use Rattle.script_loop.specs.declared.status.Status.TheVariants.{Done, WordFault, ScriptFault, ReadFault, WriteFault, NoMemory}
-use Rattle.cluster_cli.specs.Breaks.{CommandBreaks}
-use Rattle.cluster_cli.specs.OnDisk.{FilesHold, DiskIsIn}
-use Rattle.cluster_cli.specs.State.{KnownFiles, State, begun, CommandStep}
+use Rattle.cluster_commands.specs.Breaks.{CommandBreaks}
+use Rattle.cluster_commands.specs.OnDisk.{FilesHold, DiskIsIn}
+use Rattle.cluster_commands.specs.State.{KnownFiles, State, begun, CommandStep}
 use Rattle.cluster_cli.specs.declared.site.Lane.{Lane}
 use Rattle.cluster_cli.specs.declared.site.Site.{Site}
 
@@ -36,25 +37,21 @@ pub record AreDisks {D : Type 0} (lanes after : List (Lane D)) (old new : D) : T
 abbrev pub run_on : List (List ℕ) → State → View → Span State
 run_on hosts first v = record { answers = CommandStep hosts; breaks = CommandBreaks hosts; first = first; ends = DiskIsIn v }
 
--- What a run does to the count of restarts before its first command: it restarts the disk, unless memory ran out before.
-abbrev pub StartCount : Status → ℕ → ℕ → Type 0
-StartCount Done old new = Rose old new
-StartCount WordFault old new = Rose old new
-StartCount ScriptFault old new = Rose old new
-StartCount ReadFault old new = Rose old new
-StartCount WriteFault old new = Rose old new
-StartCount NoMemory old new = (new ≡ old) ⊎ Rose old new
+-- How a run begins that finds the disk so, ends with this status and leaves the disk so: its first command finds this count
+-- of restarts. The disk was restarted once; or memory ran out before, and the disk is left as it was.
+abbrev pub Starts : Status → View → View → ℕ → Type 0
+Starts status v w restarts = IsOneMore v.restarts restarts ⊎ (status ≡ NoMemory) × (restarts ≡ v.restarts) × Same v w
 
--- Of a run with this status that begins with no cluster, once the disk was restarted, whatever is known of the disk. A
--- restart may raise its count of faults.
-abbrev pub FromStart : Status → View → (State → Type 0) → Type 0
-FromStart status v P = (tells : Bool) (files : KnownFiles) → (IsTrue tells → Tells v) → FilesHold files v
-    → (faults : ℕ) × (restarts : ℕ) × (v.faults ≤ faults) × StartCount status v.restarts restarts × P (begun tells files faults restarts)
+-- P holds of each state in which a run with this status may begin that finds and leaves the disk so: no cluster is open, anything
+-- that is so may be known of the files, and the run has started. The restart may raise the disk's count of faults.
+abbrev pub FromStart : Status → View → View → (State → Type 0) → Type 0
+FromStart status v w P = (tells : Bool) (files : KnownFiles) → (IsTrue tells → Tells v) → FilesHold files v
+    → (faults : ℕ) × (restarts : ℕ) × (v.faults ≤ faults) × Starts status v w restarts × P (begun tells files faults restarts)
 
 -- what holds of a run on the disks of the site, which are these before it and those after it, whatever is known of them
 abbrev pub ForRuns : {D V : Type 0} → Status → (D → View) → Site D V → Site D V → (Span State → Type 0) → Type 0
 ForRuns {D} status view site after P =
-    (old new : D) → AreDisks site.lanes.items after.lanes.items old new → FromStart status (view old) (λ first. P (run_on site.hosts.items first (view new)))
+    (old new : D) → AreDisks site.lanes.items after.lanes.items old new → FromStart status (view old) (view new) (λ first. P (run_on site.hosts.items first (view new)))
 
 -- How a run leaves its disks: as commands leave them that were carried out, and with status 5 perhaps as one that was
 -- broken off.

@@ -1,11 +1,10 @@
 //! A cluster with the disk that it stands on, as the machine of a script.
 ghost use Rattle.std.specs.Prelude.{◌≡◌};
-ghost use Rattle.cluster_cli.specs.Breaks.{Carries, BreaksOff};
-ghost use Rattle.cluster_cli.specs.OnDisk.{IsReady};
+ghost use Rattle.cluster_commands.specs.Breaks.{Carries, BreaksOff};
+ghost use Rattle.cluster_commands.specs.OnDisk.{IsReady};
 
-use crate::cluster::Cluster;
-use crate::command::obey;
 use cache_key::HostName;
+use cluster_commands::{Cluster, obey};
 use disk_trait::Disk;
 use script_lines::{Answer, Command};
 use script_loop::Machine;

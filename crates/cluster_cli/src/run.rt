@@ -9,26 +9,25 @@ ghost use Rattle.script_loop.specs.Ends.{EndsReport, IsSurvived};
 ghost use Rattle.script_loop.specs.Script.{IsScriptOf};
 ghost use Rattle.script_loop.specs.declared.status.Status.{Status};
 ghost use Rattle.cluster_cli.specs.Ends.{HasPlan, StatusHasCause, IsRefused};
-ghost use Rattle.cluster_cli.specs.OnDisk.{IsInState, IsReady};
+ghost use Rattle.cluster_commands.specs.OnDisk.{IsInState, IsReady};
 ghost use Rattle.cluster_cli.specs.Sites.{HasLanes, ForRuns, FromStart, IsLeftBy, IsGivenBack, run_on};
-ghost use Rattle.cluster_cli.specs.State.{State};
-ghost use Rattle.cluster_cli.specs.declared.cluster.Cluster.TheVariants.{Closed};
+ghost use Rattle.cluster_commands.specs.State.{State};
+ghost use Rattle.cluster_commands.specs.declared.cluster.Cluster.TheVariants.{Closed};
 
-use crate::cluster::Cluster;
 use crate::machine::ClusterMachine;
-use crate::restart::restart_disk;
 use crate::site::{Ended, Reason, Site};
 use byte_streams::{Sink, Source};
 use cache_key::HostName;
+use cluster_commands::{Cluster, restart_disk};
 use disk_trait::Disk;
 use plan_words::{WordFault, site_plan};
 use report_lines::Fault;
 use script_loop::{Finish, Status, code, report_fault, report_script};
 use std::alloc::Global;
 
-/// Carries out the script of the source by the plan of the words, on the site, and writes its report to the sink.
+/// Carries out the script of the source by the plan of the arguments, on the site, and writes its report to the sink.
 ///
-/// The words don't have the program's own name. The site has the plan's hosts and partitions; it is given back, with what
+/// The arguments don't have the program's own name. The site has the plan's hosts and partitions; it is given back, with what
 /// its disks then hold. The status and the last line for each way to end: docs/SCRIPT.md. Always returns: the limits end a
 /// script.
 pub fn run_steps<R, S: Source, K: Sink, D: Disk, V>(
@@ -48,17 +47,17 @@ pub fn run_steps<R, S: Source, K: Sink, D: Disk, V>(
 
     // What is written, how far the script was read, and what the disks then hold, by the way that the run ends.
     ensures ends { HasPlan (words_of words.now) → (status : Status) → result.status ≡ code_of status → (script : List ℕ) → S.left source.old ≡ Some script
-        → ForRuns status D.view site result.site (λ span. EndsReport span script (K.written sink.old) status (S.left source.new) (K.written sink.new)) }
+        → ForRuns status D.view site result.site (λ span. EndsReport span script (Rose (S.faults source.old) (S.faults source.new)) (K.written sink.old) status (S.left source.new) (K.written sink.new)) }
 
-    // However it ends, and wherever a device call or a stop cut it short, what was answered is on the disks.
+    // However it ends, also after a device call that failed, each image that a stop may leave then has what was answered.
     ensures survives { HasPlan (words_of words.now) → (status : Status) → result.status ≡ code_of status → (script : List ℕ) → S.left source.old ≡ Some script
         → ForRuns status D.view site result.site (λ span. IsSurvived span script (K.written sink.old) (K.written sink.new)) }
 
     // Whatever the streams tell, the disks are left as commands leave them; one is broken off only where memory ran out.
     ensures kept { HasPlan (words_of words.now) → (status : Status) → result.status ≡ code_of status → ForRuns status D.view site result.site (IsLeftBy status) }
 
-    // Without a plan the line that says so is written, and nothing of the site is touched.
-    ensures refused { HasNoPlan (words_of words.now) → (status : Status) → result.status ≡ code_of status → IsRefused status (K.written sink.old) (K.written sink.new) site result.site }
+    // Without a plan the line that says so is written; nothing is read, and nothing of the site is touched.
+    ensures refused { HasNoPlan (words_of words.now) → (status : Status) → result.status ≡ code_of status → IsRefused status (S.left source.old) (S.left source.new) (K.written sink.old) (K.written sink.new) site result.site }
 
     // A good script is answered to its end, unless a stream fails or memory runs out.
     ensures complete { HasPlan (words_of words.now) → (script : List ℕ) (commands : List Command) → S.left source.old ≡ Some script → IsScriptOf script commands
@@ -82,7 +81,7 @@ struct Ran {
     reason: Option<Reason>,
 }
 
-// Carries out a script by the plan of the words, if they have one.
+// Carries out a script by the plan of the arguments, if they have one.
 fn run_words<S: Source, K: Sink, D: Disk, V>(
     alloc: Global,
     words: &[String],
@@ -95,9 +94,9 @@ fn run_words<S: Source, K: Sink, D: Disk, V>(
     ensures words { result.status ≡ Status.WordFault → HasNoPlan (words_of words.now) }
     ensures read { result.status ≡ Status.ReadFault → Rose (S.faults source.old) (S.faults source.new) }
     ensures write { result.status ≡ Status.WriteFault → Rose (K.faults sink.old) (K.faults sink.new) }
-    ensures ends { HasPlan (words_of words.now) → (script : List ℕ) → S.left source.old ≡ Some script → ForRuns result.status D.view site.old site.new (λ span. EndsReport span script (K.written sink.old) result.status (S.left source.new) (K.written sink.new)) }
+    ensures ends { HasPlan (words_of words.now) → (script : List ℕ) → S.left source.old ≡ Some script → ForRuns result.status D.view site.old site.new (λ span. EndsReport span script (Rose (S.faults source.old) (S.faults source.new)) (K.written sink.old) result.status (S.left source.new) (K.written sink.new)) }
     ensures kept { HasPlan (words_of words.now) → ForRuns result.status D.view site.old site.new (IsLeftBy result.status) }
-    ensures refused { HasNoPlan (words_of words.now) → IsRefused result.status (K.written sink.old) (K.written sink.new) site.old site.new }
+    ensures refused { HasNoPlan (words_of words.now) → IsRefused result.status (S.left source.old) (S.left source.new) (K.written sink.old) (K.written sink.new) site.old site.new }
     ensures complete { HasPlan (words_of words.now) → (script : List ℕ) (commands : List Command) → S.left source.old ≡ Some script → IsScriptOf script commands → result.status ≢ Status.ScriptFault }
     ensures given_back { IsGivenBack D.view site.old site.new }
 {
@@ -138,8 +137,8 @@ fn run_plan<S: Source, K: Sink, D: Disk>(
     disk: &mut D,
 ) -> Finish
     ensures words { result.status ≢ Status.WordFault }
-    ensures ends { (script : List ℕ) → S.left source.old ≡ Some script → FromStart result.status (D.view disk.old) (λ first. EndsReport (run_on hosts.now first (D.view disk.new)) script (K.written sink.old) result.status (S.left source.new) (K.written sink.new)) }
-    ensures kept { FromStart result.status (D.view disk.old) (λ first. IsLeftBy result.status (run_on hosts.now first (D.view disk.new))) }
+    ensures ends { (script : List ℕ) → S.left source.old ≡ Some script → FromStart result.status (D.view disk.old) (D.view disk.new) (λ first. EndsReport (run_on hosts.now first (D.view disk.new)) script (Rose (S.faults source.old) (S.faults source.new)) (K.written sink.old) result.status (S.left source.new) (K.written sink.new)) }
+    ensures kept { FromStart result.status (D.view disk.old) (D.view disk.new) (λ first. IsLeftBy result.status (run_on hosts.now first (D.view disk.new))) }
     ensures complete { (script : List ℕ) (commands : List Command) → S.left source.old ≡ Some script → IsScriptOf script commands → result.status ≢ Status.ScriptFault }
     ensures read { result.status ≡ Status.ReadFault → Rose (S.faults source.old) (S.faults source.new) }
     ensures write { result.status ≡ Status.WriteFault → Rose (K.faults sink.old) (K.faults sink.new) }
@@ -166,7 +165,7 @@ fn drive<S: Source, K: Sink, D: Disk>(
     requires ready { IsReady machine.old.cluster.now (D.view machine.old.disk.now) }
     ensures same_reference { machine.new.disk.ghost_name ≡ machine.old.disk.ghost_name }
     ensures words { result.status ≢ Status.WordFault }
-    ensures ends { (first : State) (script : List ℕ) → IsInState Closed (D.view machine.old.disk.now) first → S.left source.old ≡ Some script → EndsReport (run_on machine.old.hosts.now first (D.view machine.new.disk.now)) script (K.written sink.old) result.status (S.left source.new) (K.written sink.new) }
+    ensures ends { (first : State) (script : List ℕ) → IsInState Closed (D.view machine.old.disk.now) first → S.left source.old ≡ Some script → EndsReport (run_on machine.old.hosts.now first (D.view machine.new.disk.now)) script (Rose (S.faults source.old) (S.faults source.new)) (K.written sink.old) result.status (S.left source.new) (K.written sink.new) }
     ensures kept { (first : State) → IsInState Closed (D.view machine.old.disk.now) first → IsLeftBy result.status (run_on machine.old.hosts.now first (D.view machine.new.disk.now)) }
     ensures complete { (script : List ℕ) (commands : List Command) → S.left source.old ≡ Some script → IsScriptOf script commands → result.status ≢ Status.ScriptFault }
     ensures read { result.status ≡ Status.ReadFault → Rose (S.faults source.old) (S.faults source.new) }

@@ -9,6 +9,7 @@ use disk_trait::Disk;
 use plan_site::memory_site;
 use plan_words::site_plan;
 use std::alloc::Global;
+use std::fmt::Debug;
 use std::process::Abort;
 
 // How the streams of a run are cut into pieces, and which of their calls fails; 0 for none.
@@ -197,6 +198,16 @@ pub(crate) fn run(
     (ended.status, report)
 }
 
+// What was found is what is wanted.
+pub(crate) fn expect_same<T: PartialEq + Debug + Drop>(
+    rt: &impl Abort,
+    case: &str,
+    found: T,
+    want: T,
+) {
+    assert_eq!(rt; found, want, "{case}");
+}
+
 pub(crate) fn expect_report(
     rt: &impl Abort,
     alloc: Global,
@@ -205,7 +216,7 @@ pub(crate) fn expect_report(
     want: &[&str],
 ) {
     let want = joined(rt, alloc, want);
-    assert_eq!(rt; report, want.as_slice(), "{case}");
+    expect_same(rt, case, report, want.as_slice());
 }
 
 // By the words of the line the whole script is answered so.
@@ -220,7 +231,7 @@ pub(crate) fn expect_run(
     let script = joined(rt, alloc, script);
     let (status, report) = run(rt, alloc, line, script.as_slice(), WHOLE);
     expect_report(rt, alloc, case, report.as_slice(), want);
-    assert_eq!(rt; status, 0, "{case}");
+    expect_same(rt, case, status, 0);
 }
 
 // The run of the script on the disk is answered to its end; the disk that it leaves.
@@ -243,7 +254,7 @@ pub(crate) fn expect_over(
         reason: _,
         site,
     } = ended;
-    assert_eq!(rt; status, 0, "{case}");
+    expect_same(rt, case, status, 0);
     let mut lanes = site.lanes;
     let mut lane = lanes.pop().expect(rt, "a lane");
     lane.disks.pop().expect(rt, "a disk")
@@ -263,7 +274,7 @@ PST1\x00\x01\x00\x00\
 // A read of file 0 gives the store of that one put.
 pub(crate) fn expect_store(rt: &impl Abort, case: &str, disk: &mut MemoryDisk) {
     let mut found = [0; 59];
-    assert_eq!(rt; disk.length(0), Ok(59), "{case}");
-    assert_eq!(rt; disk.read(0, 0, &mut found), Ok(59), "{case}");
-    assert_eq!(rt; found.as_slice(), STORE, "{case}");
+    expect_same(rt, case, disk.length(0), Ok(59));
+    expect_same(rt, case, disk.read(0, 0, &mut found), Ok(59));
+    expect_same(rt, case, found.as_slice(), STORE);
 }

@@ -2,7 +2,7 @@
 ghost use Rattle.std.specs.Prelude.{◌≡◌, ◌≢◌, ◌⊎◌, ℕ, ◌+◌, ◌-◌, ◌<◌, ◌≤◌, ◌^◌, ◌↔◌, IfOk, OnOk, OnErr, IsErrOf, IsTrue, min, length, take, drop, [], ◌∷◌, ◌++◌, Ok, Err, if◌then◌else◌, nat_lt};
 ghost use Rattle.std.specs.List.{Contains};
 ghost use Rattle.fault_count.specs.OneMore.{one_more_than};
-ghost use Rattle.fault_count.specs.Rose.{Rose};
+ghost use Rattle.fault_count.specs.OneMore.{IsOneMore};
 ghost use Rattle.disk_trait.specs.declared.DiskRefusal.TheVariants.{Failed, NoMemory};
 ghost use Rattle.disk_trait.specs.View.{Image, Tells};
 ghost use Rattle.disk_trait.specs.Calls.{written, Torn, Shorn, Moved, Follows, TimePasses, Fewer, Same, Cause, KeepsOthers};
@@ -227,7 +227,7 @@ impl Disk for MemoryDisk {
         ensures tells { Tells (view_of self.old) → Tells (view_of self.new) }
         ensures time { TimePasses (view_of self.old) (view_of self.new) }
         ensures faults { (view_of self.old).faults ≤ (view_of self.new).faults }
-        ensures counted { Rose (view_of self.old).restarts (view_of self.new).restarts }
+        ensures counted { IsOneMore (view_of self.old).restarts (view_of self.new).restarts }
         ensures no_less { (view_of self.old).restarts ≤ (view_of self.new).restarts }
         ensures spares { (view_of self.old).spares → (view_of self.new).spares }
         ensures taken { (f : ℕ) → (view_of self.new).seen f ≡ taken_by (history_of self.old).pick (history_of self.old).changes f }

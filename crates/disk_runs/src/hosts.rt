@@ -1,7 +1,7 @@
 // A disk over a host that keeps one file in memory and may fail.
+use crate::fixtures::expect_same;
 use crate::one_file::OneFile;
 use disk_trait::{Disk, DiskRefusal, write_synced};
-use std::test::Fail;
 use untold_disk::UntoldDisk;
 
 // Through the bound alone: what was written is read, and the call that fails is answered.
@@ -15,24 +15,26 @@ fn run<D: Disk>(disk: &mut D, read: &mut [u8; 3]) -> Result<usize, DiskRefusal> 
     Ok(count)
 }
 
+const FAILED: Result<usize, DiskRefusal> = Err(DiskRefusal::Failed);
+
+// Which call fails, what the calls answer, and what was read.
+const FAILING: &[(&str, u64, Result<usize, DiskRefusal>, [u8; 3])] = &[
+    ("no call fails", 0, Ok(3), *b"abc"),
+    ("the write fails", 1, FAILED, *b"\0\0\0"),
+    ("the first sync fails", 2, FAILED, *b"\0\0\0"),
+    ("the cut fails", 3, FAILED, *b"\0\0\0"),
+    ("the second sync fails", 4, FAILED, *b"\0\0\0"),
+    ("the length fails", 5, FAILED, *b"\0\0\0"),
+    ("the read fails", 6, FAILED, *b"\0\0\0"),
+    ("a call that is never made fails", 7, Ok(3), *b"abc"),
+];
+
 #[test]
-fn hands_on_the_host_s_answers(rt: HostRuntime) -> Result<(), Fail> {
-    for (case, failing, want) in [
-        ("no call fails", 0, Ok(3)),
-        ("the write fails", 1, Err(DiskRefusal::Failed)),
-        ("the first sync fails", 2, Err(DiskRefusal::Failed)),
-        ("the cut fails", 3, Err(DiskRefusal::Failed)),
-        ("the second sync fails", 4, Err(DiskRefusal::Failed)),
-        ("the length fails", 5, Err(DiskRefusal::Failed)),
-        ("the read fails", 6, Err(DiskRefusal::Failed)),
-        ("a call that is never made fails", 7, Ok(3)),
-    ] {
-        let mut disk = UntoldDisk::over(OneFile::holding(Vec::new(rt.alloc()), failing));
+fn hands_on_the_host_s_answers(rt: HostRuntime) {
+    for (case, failing, want, bytes) in FAILING {
+        let mut disk = UntoldDisk::over(OneFile::holding(Vec::new(rt.alloc()), *failing));
         let mut read = [0; 3];
-        assert_eq!(rt; run(&mut disk, &mut read), want, "{case}");
-        if failing == 0 {
-            assert_eq!(rt; read, [b'a', b'b', b'c'], "{case}");
-        }
+        expect_same(&rt, case, run(&mut disk, &mut read), *want);
+        expect_same(&rt, case, read, *bytes);
     }
-    Ok(())
 }

@@ -8,6 +8,8 @@
 #[cfg(test)]
 mod counts;
 #[cfg(test)]
+mod fixtures;
+#[cfg(test)]
 mod hosts;
 #[cfg(test)]
 mod memory_disks;

@@ -1,9 +1,9 @@
 // A disk in memory: which image a restart takes, and which calls fail.
+use crate::fixtures::expect_same;
 use disk_memory::{DiskPlan, MemoryDisk};
-use disk_trait::Disk;
+use disk_trait::{Disk, DiskRefusal};
 use std::alloc::Global;
 use std::process::Abort;
-use std::test::Fail;
 
 #[derive(Clone, Copy)]
 enum Step {
@@ -15,381 +15,345 @@ enum Step {
 
 use Step::{Cut, Restart, Sync, Write};
 
-fn plan(
+fn disk_of(
+    rt: &impl Abort,
     alloc: Global,
     fail: &[u64],
     fail_reads: &[u64],
     fuse: Option<u64>,
     pick: u8,
-) -> Result<DiskPlan, Fail> {
-    Ok(DiskPlan {
-        fail: fail.to_vec(alloc)?,
-        fail_reads: fail_reads.to_vec(alloc)?,
+) -> MemoryDisk {
+    let plan = DiskPlan {
+        fail: fail.to_vec(alloc).expect(rt, "memory"),
+        fail_reads: fail_reads.to_vec(alloc).expect(rt, "memory"),
         fuse,
         pick,
-    })
+    };
+    MemoryDisk::new(alloc, plan).expect(rt, "a disk")
 }
 
 // Does a step, and says whether it was answered Ok.
-fn went(disk: &mut MemoryDisk, step: Step) -> Result<bool, Fail> {
+fn went(rt: &impl Abort, disk: &mut MemoryDisk, step: Step) -> bool {
     match step {
         Write(file, at, bytes) => {
-            if file > 10 || at > disk.length(file)? {
-                return Err("no such offset")?;
-            }
-            Ok(disk.write_at(file, at, bytes).is_ok())
+            assert!(rt; file <= 10, "no such file");
+            let length = disk.length(file).expect(rt, "a length");
+            assert!(rt; at <= length, "no such offset");
+            disk.write_at(file, at, bytes).is_ok()
         }
         Cut(file, to) => {
-            if file > 10 {
-                return Err("no such file")?;
-            }
-            Ok(disk.cut(file, to).is_ok())
+            assert!(rt; file <= 10, "no such file");
+            disk.cut(file, to).is_ok()
         }
         Sync(file) => {
-            if file > 10 {
-                return Err("no such file")?;
-            }
-            Ok(disk.sync(file).is_ok())
+            assert!(rt; file <= 10, "no such file");
+            disk.sync(file).is_ok()
         }
         Restart => {
             disk.restart();
-            Ok(true)
+            true
         }
     }
 }
 
-// All that a read gives.
-fn contents(alloc: Global, disk: &mut MemoryDisk, file: u8) -> Result<Vec<u8>, Fail> {
-    if file > 10 {
-        return Err("no such file")?;
-    }
-    let mut into = [0u8; 32];
-    let count = disk.read(file, 0, &mut into)?;
-    if disk.length(file)? != count as u64 {
-        return Err("another length")?;
-    }
-    Ok(into[..count].to_vec(alloc)?)
+// All that a read of the file gives.
+fn expect_contents(rt: &impl Abort, case: &str, disk: &mut MemoryDisk, file: u8, want: &[u8]) {
+    assert!(rt; file <= 10, "no such file");
+    let mut into = [0; 32];
+    expect_same(rt, case, disk.length(file), Ok(want.len() as u64));
+    let count = disk.read(file, 0, &mut into).expect(rt, case);
+    expect_same(rt, case, into.get(..count), Some(want));
 }
 
 // A file with `abcdef`, synced, on which these steps are done.
-fn after(alloc: Global, pick: u8, steps: &[Step]) -> Result<MemoryDisk, Fail> {
-    let mut disk = MemoryDisk::new(alloc, plan(alloc, &[], &[], None, pick)?)?;
-    disk.write_at(0, 0, b"abcdef")?;
-    disk.sync(0)?;
+fn after(rt: &impl Abort, alloc: Global, pick: u8, steps: &[Step]) -> MemoryDisk {
+    let mut disk = disk_of(rt, alloc, &[], &[], None, pick);
+    disk.write_at(0, 0, b"abcdef").expect(rt, "a write");
+    disk.sync(0).expect(rt, "a sync");
     for step in steps {
-        if !went(&mut disk, *step)? {
-            return Err("a step failed")?;
-        }
+        assert!(rt; went(rt, &mut disk, *step), "a step failed");
     }
-    Ok(disk)
+    disk
 }
 
 // The steps, what a read of file 0 gives after them, and what each pick leaves of it.
-#[derive(Clone, Copy)]
-struct Case {
-    name: &'static str,
-    steps: &'static [Step],
-    seen: &'static [u8],
-    left: [&'static [u8]; 4],
-}
+const PICKS: &[(&str, &[Step], &[u8], [&[u8]; 4])] = &[
+    (
+        "a write within",
+        &[Write(0, 2, b"WXYZ")],
+        b"abWXYZ",
+        [b"abcdef", b"abWXYZ", b"ab\xff\xff\xff\xff", b"abWXef"],
+    ),
+    (
+        "a write, synced",
+        &[Write(0, 2, b"WXYZ"), Sync(0)],
+        b"abWXYZ",
+        [b"abWXYZ", b"abWXYZ", b"abWXYZ", b"abWXYZ"],
+    ),
+    (
+        "a write, and a sync of another file",
+        &[Write(0, 2, b"WXYZ"), Sync(1)],
+        b"abWXYZ",
+        [b"abcdef", b"abWXYZ", b"ab\xff\xff\xff\xff", b"abWXef"],
+    ),
+    (
+        "a write over a write",
+        &[Write(0, 0, b"123"), Write(0, 1, b"45678")],
+        b"145678",
+        [b"abcdef", b"145678", b"\xff\xff\xff\xff\xff\xff", b"145def"],
+    ),
+    (
+        "a write at the end",
+        &[Write(0, 6, b"GHI")],
+        b"abcdefGHI",
+        [b"abcdef", b"abcdefGHI", b"abcdef\xff\xff\xff", b"abcdefG"],
+    ),
+    (
+        "a write past the end",
+        &[Write(0, 4, b"WXYZ")],
+        b"abcdWXYZ",
+        [b"abcdef", b"abcdWXYZ", b"abcd\xff\xff\xff\xff", b"abcdWX"],
+    ),
+    (
+        "two writes at the end",
+        &[Write(0, 6, b"GHIJ"), Write(0, 10, b"KL")],
+        b"abcdefGHIJKL",
+        [
+            b"abcdef",
+            b"abcdefGHIJKL",
+            b"abcdef\xff\xff\xff\xff\xff\xff",
+            b"abcdefGH\0\0K",
+        ],
+    ),
+    (
+        "one byte at the end",
+        &[Write(0, 6, b"GHIJ"), Write(0, 10, b"K")],
+        b"abcdefGHIJK",
+        [
+            b"abcdef",
+            b"abcdefGHIJK",
+            b"abcdef\xff\xff\xff\xff\xff",
+            b"abcdefGH",
+        ],
+    ),
+    (
+        "a cut",
+        &[Cut(0, 2)],
+        b"ab",
+        [b"abcdef", b"ab", b"ab", b"ab"],
+    ),
+    (
+        "a cut, synced",
+        &[Cut(0, 2), Sync(0)],
+        b"ab",
+        [b"ab", b"ab", b"ab", b"ab"],
+    ),
+    (
+        "a cut after the end",
+        &[Cut(0, 9), Write(0, 0, b"AB")],
+        b"ABcdef",
+        [b"abcdef", b"ABcdef", b"\xff\xffcdef", b"Abcdef"],
+    ),
+    (
+        "a write, then a cut",
+        &[Write(0, 6, b"GHIJ"), Cut(0, 7)],
+        b"abcdefG",
+        [b"abcdef", b"abcdefG", b"abcdef\xff", b"abcdefG"],
+    ),
+    (
+        "a cut, then a write",
+        &[Cut(0, 2), Write(0, 2, b"XY")],
+        b"abXY",
+        [b"abcdef", b"abXY", b"ab\xff\xff", b"abX"],
+    ),
+    (
+        "a sync between two writes",
+        &[Write(0, 6, b"GH"), Sync(0), Write(0, 1, b"BC")],
+        b"aBCdefGH",
+        [b"abcdefGH", b"aBCdefGH", b"a\xff\xffdefGH", b"aBcdefGH"],
+    ),
+];
 
-// A second restart changes nothing.
-fn restarts_to(rt: &impl Abort, alloc: Global, case: &Case, pick: u8) -> Result<(), Fail> {
-    let left = case.left.get(pick as usize).ok_or("no such pick")?;
-    let mut disk = after(alloc, pick, case.steps)?;
-    let seen = contents(alloc, &mut disk, 0)?;
-    assert_eq!(rt; seen.as_slice(), case.seen, "{}, before", case.name);
+// A restart by the pick leaves this, and a second one changes nothing.
+fn restarts_to(rt: &impl Abort, case: &str, disk: &mut MemoryDisk, seen: &[u8], left: &[u8]) {
+    expect_contents(rt, case, disk, 0, seen);
     disk.restart();
-    let once = contents(alloc, &mut disk, 0)?;
-    assert_eq!(rt; once.as_slice(), *left, "{}, pick {pick}", case.name);
+    expect_contents(rt, case, disk, 0, left);
     disk.restart();
-    let twice = contents(alloc, &mut disk, 0)?;
-    assert_eq!(rt;
-        twice.as_slice(),
-        *left,
-        "{}, pick {pick}, twice",
-        case.name
-    );
-    Ok(())
+    expect_contents(rt, case, disk, 0, left);
 }
 
 #[test]
-fn each_pick_takes_its_image(rt: HostRuntime) -> Result<(), Fail> {
-    for case in [
-        Case {
-            name: "a write within",
-            steps: &[Write(0, 2, b"WXYZ")],
-            seen: b"abWXYZ",
-            left: [b"abcdef", b"abWXYZ", b"ab\xff\xff\xff\xff", b"abWXef"],
-        },
-        Case {
-            name: "a write, synced",
-            steps: &[Write(0, 2, b"WXYZ"), Sync(0)],
-            seen: b"abWXYZ",
-            left: [b"abWXYZ", b"abWXYZ", b"abWXYZ", b"abWXYZ"],
-        },
-        Case {
-            name: "a write, and a sync of another file",
-            steps: &[Write(0, 2, b"WXYZ"), Sync(1)],
-            seen: b"abWXYZ",
-            left: [b"abcdef", b"abWXYZ", b"ab\xff\xff\xff\xff", b"abWXef"],
-        },
-        Case {
-            name: "a write over a write",
-            steps: &[Write(0, 0, b"123"), Write(0, 1, b"45678")],
-            seen: b"145678",
-            left: [b"abcdef", b"145678", b"\xff\xff\xff\xff\xff\xff", b"145def"],
-        },
-        Case {
-            name: "a write at the end",
-            steps: &[Write(0, 6, b"GHI")],
-            seen: b"abcdefGHI",
-            left: [b"abcdef", b"abcdefGHI", b"abcdef\xff\xff\xff", b"abcdefG"],
-        },
-        Case {
-            name: "a write past the end",
-            steps: &[Write(0, 4, b"WXYZ")],
-            seen: b"abcdWXYZ",
-            left: [b"abcdef", b"abcdWXYZ", b"abcd\xff\xff\xff\xff", b"abcdWX"],
-        },
-        Case {
-            name: "two writes at the end",
-            steps: &[Write(0, 6, b"GHIJ"), Write(0, 10, b"KL")],
-            seen: b"abcdefGHIJKL",
-            left: [
-                b"abcdef",
-                b"abcdefGHIJKL",
-                b"abcdef\xff\xff\xff\xff\xff\xff",
-                b"abcdefGH\0\0K",
-            ],
-        },
-        Case {
-            name: "one byte at the end",
-            steps: &[Write(0, 6, b"GHIJ"), Write(0, 10, b"K")],
-            seen: b"abcdefGHIJK",
-            left: [
-                b"abcdef",
-                b"abcdefGHIJK",
-                b"abcdef\xff\xff\xff\xff\xff",
-                b"abcdefGH",
-            ],
-        },
-        Case {
-            name: "a cut",
-            steps: &[Cut(0, 2)],
-            seen: b"ab",
-            left: [b"abcdef", b"ab", b"ab", b"ab"],
-        },
-        Case {
-            name: "a cut, synced",
-            steps: &[Cut(0, 2), Sync(0)],
-            seen: b"ab",
-            left: [b"ab", b"ab", b"ab", b"ab"],
-        },
-        Case {
-            name: "a cut after the end",
-            steps: &[Cut(0, 9), Write(0, 0, b"AB")],
-            seen: b"ABcdef",
-            left: [b"abcdef", b"ABcdef", b"\xff\xffcdef", b"Abcdef"],
-        },
-        Case {
-            name: "a write, then a cut",
-            steps: &[Write(0, 6, b"GHIJ"), Cut(0, 7)],
-            seen: b"abcdefG",
-            left: [b"abcdef", b"abcdefG", b"abcdef\xff", b"abcdefG"],
-        },
-        Case {
-            name: "a cut, then a write",
-            steps: &[Cut(0, 2), Write(0, 2, b"XY")],
-            seen: b"abXY",
-            left: [b"abcdef", b"abXY", b"ab\xff\xff", b"abX"],
-        },
-        Case {
-            name: "a sync between two writes",
-            steps: &[Write(0, 6, b"GH"), Sync(0), Write(0, 1, b"BC")],
-            seen: b"aBCdefGH",
-            left: [b"abcdefGH", b"aBCdefGH", b"a\xff\xffdefGH", b"aBcdefGH"],
-        },
-    ] {
+fn each_pick_takes_its_image(rt: HostRuntime) {
+    for (case, steps, seen, left) in PICKS {
         for pick in 0..4u8 {
-            restarts_to(&rt, rt.alloc(), &case, pick)?;
+            let mut disk = after(&rt, rt.alloc(), pick, steps);
+            restarts_to(&rt, case, &mut disk, seen, left[pick as usize]);
         }
     }
-    Ok(())
+}
+
+const TWO_RESTARTS: &[Step] = &[
+    Write(0, 2, b"WXYZ"),
+    Write(7, 0, b"uvw"),
+    Sync(7),
+    Write(10, 0, b"pq"),
+    Restart,
+    Write(0, 0, b"12"),
+    Restart,
+];
+
+// What each pick leaves of files 0 and 10.
+const TWICE: &[(&str, u8, &[u8], &[u8])] = &[
+    ("pick 0", 0, b"abcdef", b""),
+    ("pick 1", 1, b"12WXYZ", b"pq"),
+    ("pick 2", 2, b"\xff\xff\xff\xff\xff\xff", b"\xff\xff"),
+    ("pick 3", 3, b"1bWXef", b"p"),
+];
+
+#[test]
+fn a_disk_goes_on_after_a_restart(rt: HostRuntime) {
+    for (case, pick, first, last) in TWICE {
+        let mut disk = after(&rt, rt.alloc(), *pick, TWO_RESTARTS);
+        expect_contents(&rt, case, &mut disk, 0, first);
+        expect_contents(&rt, case, &mut disk, 7, b"uvw");
+        expect_contents(&rt, case, &mut disk, 10, last);
+        expect_contents(&rt, case, &mut disk, 5, b"");
+    }
+}
+
+const WRITE: (Step, bool) = (Write(0, 0, b"abcdef"), true);
+
+const SYNC: (Step, bool) = (Sync(0), true);
+
+// Which calls fail, the steps with their answers, and what a read of file 0 gives after them.
+const FAILING: &[(&str, &[u64], &[(Step, bool)], &[u8])] = &[
+    (
+        "a failing write is pending",
+        &[3],
+        &[WRITE, SYNC, (Write(0, 2, b"WXYZ"), false)],
+        b"abWXYZ",
+    ),
+    (
+        "and a stop leaves half of it",
+        &[3],
+        &[WRITE, SYNC, (Write(0, 2, b"WXYZ"), false), (Restart, true)],
+        b"abWXef",
+    ),
+    (
+        "a failing cut is pending",
+        &[2, 3],
+        &[WRITE, (Cut(0, 4), false), (Cut(0, 2), false), SYNC],
+        b"ab",
+    ),
+    (
+        "a failing sync changes nothing",
+        &[2],
+        &[WRITE, (Sync(0), false), (Restart, true)],
+        b"abc",
+    ),
+    (
+        "the first call has the number 1, over all files",
+        &[1, 3],
+        &[
+            (Write(0, 0, b"ab"), false),
+            (Sync(4), true),
+            (Write(9, 0, b"cd"), false),
+            SYNC,
+        ],
+        b"ab",
+    ),
+];
+
+// The same by a fuse at call 3.
+const FUSED: &[(&str, &[(Step, bool)], &[u8])] = &[
+    (
+        "a fuse fails its call and all later ones",
+        &[
+            WRITE,
+            SYNC,
+            (Write(0, 6, b"GH"), false),
+            (Sync(0), false),
+            (Cut(1, 0), false),
+        ],
+        b"abcdefGH",
+    ),
+    (
+        "a restart removes a fuse that was met",
+        &[
+            WRITE,
+            SYNC,
+            (Write(0, 6, b"GH"), false),
+            (Restart, true),
+            (Write(0, 7, b"IJ"), true),
+            SYNC,
+        ],
+        b"abcdefGIJ",
+    ),
+    (
+        "and no other fuse",
+        &[
+            WRITE,
+            SYNC,
+            (Restart, true),
+            (Sync(0), false),
+            (Sync(0), false),
+        ],
+        b"abcdef",
+    ),
+];
+
+// Each step is answered so, and a read of file 0 then gives this.
+fn expect_steps(
+    rt: &impl Abort,
+    case: &str,
+    disk: &mut MemoryDisk,
+    steps: &[(Step, bool)],
+    seen: &[u8],
+) {
+    for (step, want) in steps {
+        expect_same(rt, case, went(rt, disk, *step), *want);
+    }
+    expect_contents(rt, case, disk, 0, seen);
 }
 
 #[test]
-fn a_disk_goes_on_after_a_restart(rt: HostRuntime) -> Result<(), Fail> {
-    let steps = [
-        Write(0, 2, b"WXYZ"),
-        Write(7, 0, b"uvw"),
-        Sync(7),
-        Write(10, 0, b"pq"),
-        Restart,
-        Write(0, 0, b"12"),
-        Restart,
-    ];
-    let first: [&[u8]; 4] = [b"abcdef", b"12WXYZ", b"\xff\xff\xff\xff\xff\xff", b"1bWXef"];
-    let last: [&[u8]; 4] = [b"", b"pq", b"\xff\xff", b"p"];
-    for pick in 0..4u8 {
-        let mut disk = after(rt.alloc(), pick, &steps)?;
-        let zero = contents(rt.alloc(), &mut disk, 0)?;
-        assert_eq!(rt; zero.as_slice(), first[pick as usize], "pick {pick}");
-        let seven = contents(rt.alloc(), &mut disk, 7)?;
-        assert_eq!(rt; seven.as_slice(), b"uvw".as_slice(), "pick {pick}");
-        let ten = contents(rt.alloc(), &mut disk, 10)?;
-        assert_eq!(rt; ten.as_slice(), last[pick as usize], "pick {pick}");
-        let five = contents(rt.alloc(), &mut disk, 5)?;
-        assert_eq!(rt; five.as_slice(), b"".as_slice(), "pick {pick}");
+fn the_plan_says_which_changes_fail(rt: HostRuntime) {
+    for (case, fail, steps, seen) in FAILING {
+        let mut disk = disk_of(&rt, rt.alloc(), fail, &[], None, 3);
+        expect_steps(&rt, case, &mut disk, steps, seen);
     }
-    Ok(())
-}
-
-// The plan, the steps with their answers, and what a read of file 0 gives after them.
-#[derive(Clone, Copy)]
-struct Planned<'a> {
-    name: &'static str,
-    fail: &'static [u64],
-    fuse: Option<u64>,
-    steps: &'a [(Step, bool)],
-    seen: &'static [u8],
-}
-
-fn goes_by_plan(rt: &impl Abort, alloc: Global, case: &Planned) -> Result<(), Fail> {
-    let made = plan(alloc, case.fail, &[], case.fuse, 3)?;
-    let mut disk = MemoryDisk::new(alloc, made)?;
-    for (step, want) in case.steps {
-        assert_eq!(rt; went(&mut disk, *step)?, *want, "{}", case.name);
-    }
-    let seen = contents(alloc, &mut disk, 0)?;
-    assert_eq!(rt; seen.as_slice(), case.seen, "{}", case.name);
-    Ok(())
 }
 
 #[test]
-fn the_plan_says_which_changes_fail(rt: HostRuntime) -> Result<(), Fail> {
-    for case in [
-        Planned {
-            name: "a failing write is pending",
-            fail: &[3],
-            fuse: None,
-            steps: &[
-                (Write(0, 0, b"abcdef"), true),
-                (Sync(0), true),
-                (Write(0, 2, b"WXYZ"), false),
-            ],
-            seen: b"abWXYZ",
-        },
-        Planned {
-            name: "and a stop leaves half of it",
-            fail: &[3],
-            fuse: None,
-            steps: &[
-                (Write(0, 0, b"abcdef"), true),
-                (Sync(0), true),
-                (Write(0, 2, b"WXYZ"), false),
-                (Restart, true),
-            ],
-            seen: b"abWXef",
-        },
-        Planned {
-            name: "a failing cut is pending",
-            fail: &[2, 3],
-            fuse: None,
-            steps: &[
-                (Write(0, 0, b"abcdef"), true),
-                (Cut(0, 4), false),
-                (Cut(0, 2), false),
-                (Sync(0), true),
-            ],
-            seen: b"ab",
-        },
-        Planned {
-            name: "a failing sync changes nothing",
-            fail: &[2],
-            fuse: None,
-            steps: &[
-                (Write(0, 0, b"abcdef"), true),
-                (Sync(0), false),
-                (Restart, true),
-            ],
-            seen: b"abc",
-        },
-        Planned {
-            name: "the first call has the number 1, over all files",
-            fail: &[1, 3],
-            fuse: None,
-            steps: &[
-                (Write(0, 0, b"ab"), false),
-                (Sync(4), true),
-                (Write(9, 0, b"cd"), false),
-                (Sync(0), true),
-            ],
-            seen: b"ab",
-        },
-        Planned {
-            name: "a fuse fails its call and all later ones",
-            fail: &[],
-            fuse: Some(3),
-            steps: &[
-                (Write(0, 0, b"abcdef"), true),
-                (Sync(0), true),
-                (Write(0, 6, b"GH"), false),
-                (Sync(0), false),
-                (Cut(1, 0), false),
-            ],
-            seen: b"abcdefGH",
-        },
-        Planned {
-            name: "a restart removes a fuse that was met",
-            fail: &[],
-            fuse: Some(3),
-            steps: &[
-                (Write(0, 0, b"abcdef"), true),
-                (Sync(0), true),
-                (Write(0, 6, b"GH"), false),
-                (Restart, true),
-                (Write(0, 7, b"IJ"), true),
-                (Sync(0), true),
-            ],
-            seen: b"abcdefGIJ",
-        },
-        Planned {
-            name: "and no other fuse",
-            fail: &[],
-            fuse: Some(3),
-            steps: &[
-                (Write(0, 0, b"abcdef"), true),
-                (Sync(0), true),
-                (Restart, true),
-                (Sync(0), false),
-                (Sync(0), false),
-            ],
-            seen: b"abcdef",
-        },
-    ] {
-        goes_by_plan(&rt, rt.alloc(), &case)?;
+fn a_fuse_fails_all_changes_from_its_own(rt: HostRuntime) {
+    for (case, steps, seen) in FUSED {
+        let mut disk = disk_of(&rt, rt.alloc(), &[], &[], Some(3), 3);
+        expect_steps(&rt, case, &mut disk, steps, seen);
     }
-    Ok(())
 }
 
+const FAILED: DiskRefusal = DiskRefusal::Failed;
+
 #[test]
-fn reads_are_numbered_apart(rt: HostRuntime) -> Result<(), Fail> {
-    let mut disk = MemoryDisk::new(rt.alloc(), plan(rt.alloc(), &[2], &[1, 3], None, 0)?)?;
-    let mut into = [0u8; 4];
-    assert!(rt; disk.length(0).is_err(), "the first");
-    assert!(rt;
-        disk.write_at(0, 0, b"abcdef").is_ok(),
-        "changes have numbers of their own"
-    );
-    assert_eq!(rt; disk.length(0)?, 6);
-    assert!(rt; disk.read(0, 0, &mut into).is_err(), "the third");
-    assert_eq!(rt; disk.read(0, 1, &mut into)?, 4);
-    assert_eq!(rt; into, *b"bcde");
-    assert_eq!(rt; disk.read(0, 4, &mut into)?, 2);
-    assert_eq!(rt; disk.read(0, 6, &mut into)?, 0);
-    assert!(rt; disk.sync(0).is_err(), "the second change");
+fn reads_are_numbered_apart(rt: HostRuntime) {
+    let mut disk = disk_of(&rt, rt.alloc(), &[2], &[1, 3], None, 0);
+    let mut into = [0; 4];
+    expect_same(&rt, "read 1", disk.length(0), Err(FAILED));
+    expect_same(&rt, "change 1", disk.write_at(0, 0, b"abcdef"), Ok(()));
+    expect_same(&rt, "read 2", disk.length(0), Ok(6));
+    expect_same(&rt, "read 3", disk.read(0, 0, &mut into), Err(FAILED));
+    expect_same(&rt, "change 2", disk.sync(0), Err(FAILED));
     disk.restart();
-    assert_eq!(rt; disk.length(0)?, 0);
-    Ok(())
+    expect_same(&rt, "nothing is left", disk.length(0), Ok(0));
+}
+
+#[test]
+fn a_read_gives_what_is_there(rt: HostRuntime) {
+    let mut disk = after(&rt, rt.alloc(), 0, &[]);
+    let mut into = [0; 4];
+    expect_same(&rt, "room for 4", disk.read(0, 1, &mut into), Ok(4));
+    expect_same(&rt, "the bytes", into, *b"bcde");
+    expect_same(&rt, "2 are left", disk.read(0, 4, &mut into), Ok(2));
+    expect_same(&rt, "none is left", disk.read(0, 6, &mut into), Ok(0));
 }

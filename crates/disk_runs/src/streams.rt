@@ -1,124 +1,142 @@
 // The streams by tables: pieces, and each call failing in turn.
+use crate::fixtures::expect_same;
 use byte_streams::{
     MemorySink, MemorySource, Sink, SinkRefusal, Source, SourceRefusal, StandardSink,
     StandardSource, write_all,
 };
+use std::alloc::Global;
 use std::io::{self, Write};
-use std::test::Fail;
+use std::process::Abort;
 
 const TEXT: &[u8] = b"put c a 1\nget c a\n";
 
 // What a source gives in reads of `room` bytes, to its end or its first refusal.
 fn read_out<S: Source>(
-    rt: &HostRuntime,
+    rt: &impl Abort,
+    alloc: Global,
     source: &mut S,
     room: usize,
-) -> Result<(Vec<u8>, Option<SourceRefusal>), Fail> {
-    let mut into = vec![in rt.alloc(); 0u8; room]?;
-    let mut got = Vec::new(rt.alloc());
+) -> (Vec<u8>, Option<SourceRefusal>) {
+    let mut into = vec![in alloc; 0u8; room].expect(rt, "memory");
+    let mut got = Vec::new(alloc);
     for _ in 0..100 {
         match source.read(&mut into) {
-            Ok(0) => return Ok((got, None)),
-            Ok(count) => got.extend_from_slice(&into[..count])?,
-            Err(refusal) => return Ok((got, Some(refusal))),
+            Ok(0) => return (got, None),
+            Ok(count) => got.extend_from_slice(&into[..count]).expect(rt, "memory"),
+            Err(refusal) => return (got, Some(refusal)),
         }
     }
-    Ok((got, None))
+    (got, None)
 }
 
+// The source gives these bytes, and then is at its end or refuses.
+fn expect_read<S: Source>(
+    rt: &impl Abort,
+    alloc: Global,
+    case: &str,
+    source: &mut S,
+    want: (&[u8], Option<SourceRefusal>),
+) {
+    let (got, refusal) = read_out(rt, alloc, source, 9);
+    expect_same(rt, case, got.as_slice(), want.0);
+    expect_same(rt, case, refusal, want.1);
+}
+
+// How many bytes the source gives at most, and how many a read takes.
+const PIECES: &[(usize, usize)] = &[
+    (1, 1),
+    (1, 7),
+    (2, 5),
+    (7, 2),
+    (7, 7),
+    (65_536, 3),
+    (3, 65_536),
+    (65_536, 65_536),
+];
+
 #[test]
-fn a_source_gives_its_bytes_once_in_pieces_of_any_size(rt: HostRuntime) -> Result<(), Fail> {
-    for (most, room) in [
-        (1, 1),
-        (1, 7),
-        (2, 5),
-        (7, 2),
-        (7, 7),
-        (65_536, 3),
-        (3, 65_536),
-        (65_536, 65_536),
-    ] {
-        let bytes = TEXT.to_vec(rt.alloc())?;
-        let mut source = MemorySource::in_pieces(bytes, most, Vec::new(rt.alloc()));
-        let (got, refusal) = read_out(&rt, &mut source, room)?;
+fn a_source_gives_its_bytes_once_in_pieces_of_any_size(rt: HostRuntime) {
+    for (most, room) in PIECES {
+        let bytes = TEXT.to_vec(rt.alloc()).expect(&rt, "memory");
+        let planned = Vec::new(rt.alloc());
+        let mut source = MemorySource::in_pieces(bytes, (*most).max(1), planned);
+        let (got, refusal) = read_out(&rt, rt.alloc(), &mut source, *room);
         assert_eq!(rt; got.as_slice(), TEXT, "pieces of {most} into {room}");
-        assert_eq!(rt; refusal, None);
+        expect_same(&rt, "the end", refusal, None);
     }
-    Ok(())
 }
 
+// Which call fails, and what was read before it and after it.
+const FAILING_READS: &[(&str, u64, &[u8], &[u8])] = &[
+    ("call 1", 1, b"", b"put c a 1\nget c a\n"),
+    ("call 2", 2, b"put c a", b" 1\nget c a\n"),
+    ("call 3", 3, b"put c a 1\nget ", b"c a\n"),
+    ("call 4", 4, b"put c a 1\nget c a\n", b""),
+];
+
 #[test]
-fn a_planned_read_fails_and_takes_nothing(rt: HostRuntime) -> Result<(), Fail> {
-    for (call, want) in [
-        (1, b"".as_slice()),
-        (2, b"put c a".as_slice()),
-        (3, b"put c a 1\nget ".as_slice()),
-        (4, b"put c a 1\nget c a\n".as_slice()),
-    ] {
-        let bytes = TEXT.to_vec(rt.alloc())?;
-        let planned = vec![in rt.alloc(); call]?;
+fn a_planned_read_fails_and_takes_nothing(rt: HostRuntime) {
+    for (case, call, before, after) in FAILING_READS {
+        let bytes = TEXT.to_vec(rt.alloc()).expect(&rt, "memory");
+        let planned = vec![in rt.alloc(); *call].expect(&rt, "memory");
         let mut source = MemorySource::in_pieces(bytes, 7, planned);
-        let (got, refusal) = read_out(&rt, &mut source, 9)?;
-        assert_eq!(rt; got.as_slice(), want, "call {call}");
-        assert_eq!(rt; refusal, Some(SourceRefusal::Failed));
-        let (rest, refusal) = read_out(&rt, &mut source, 9)?;
-        assert_eq!(rt;
-            got.len() + rest.len(),
-            TEXT.len(),
-            "nothing is lost at call {call}"
-        );
-        assert_eq!(rt; refusal, None);
+        let failed = Some(SourceRefusal::Failed);
+        expect_read(&rt, rt.alloc(), case, &mut source, (before, failed));
+        expect_read(&rt, rt.alloc(), case, &mut source, (after, None));
     }
-    Ok(())
 }
 
 #[test]
-fn a_text_is_written_whole_in_pieces_of_any_size(rt: HostRuntime) -> Result<(), Fail> {
+fn a_text_is_written_whole_in_pieces_of_any_size(rt: HostRuntime) {
     for most in [1, 2, 7, 65_536] {
         let mut sink = MemorySink::in_pieces(rt.alloc(), most, Vec::new(rt.alloc()));
-        write_all(&mut sink, b"")?;
-        write_all(&mut sink, b"{\"ok\":1}\n")?;
-        write_all(&mut sink, b"{}\n")?;
-        assert_eq!(rt;
-            sink.written(),
-            b"{\"ok\":1}\n{}\n".as_slice(),
-            "pieces of {most}"
-        );
+        for text in ["", "{\"ok\":1}\n", "{}\n"] {
+            expect_same(&rt, text, write_all(&mut sink, text.as_bytes()), Ok(()));
+        }
+        let want = b"{\"ok\":1}\n{}\n".as_slice();
+        assert_eq!(rt; sink.written(), want, "pieces of {most}");
     }
-    Ok(())
 }
 
+// Which call fails, and what was written before it.
+const FAILING_WRITES: &[(&str, u64, &[u8])] = &[
+    ("call 1", 1, b""),
+    ("call 2", 2, b"{\"ok\":1"),
+    ("call 3", 3, b"{\"ok\":1}\n"),
+];
+
 #[test]
-fn a_planned_write_fails_after_a_prefix_of_the_text(rt: HostRuntime) -> Result<(), Fail> {
-    for (call, want) in [
-        (1, b"".as_slice()),
-        (2, b"{\"ok\":1".as_slice()),
-        (3, b"{\"ok\":1}\n".as_slice()),
-    ] {
-        let planned = vec![in rt.alloc(); call]?;
+fn a_planned_write_fails_after_a_prefix_of_the_text(rt: HostRuntime) {
+    for (case, call, want) in FAILING_WRITES {
+        let planned = vec![in rt.alloc(); *call].expect(&rt, "memory");
         let mut sink = MemorySink::in_pieces(rt.alloc(), 7, planned);
         let first = write_all(&mut sink, b"{\"ok\":1}\n");
         let second = match first {
             Ok(()) => write_all(&mut sink, b"{}\n"),
             Err(_) => first,
         };
-        assert_eq!(rt; second, Err(SinkRefusal::Failed), "call {call}");
-        assert_eq!(rt; sink.written(), want, "call {call}");
+        expect_same(&rt, case, second, Err(SinkRefusal::Failed));
+        expect_same(&rt, case, sink.written(), *want);
     }
-    Ok(())
 }
 
 #[test]
-fn whole_streams_move_all_at_once(rt: HostRuntime) -> Result<(), Fail> {
-    let mut source = MemorySource::new(TEXT.to_vec(rt.alloc())?, Vec::new(rt.alloc()));
-    let mut into = [0u8; 64];
-    assert_eq!(rt; source.read(&mut into), Ok(18));
-    assert_eq!(rt; source.read(&mut into), Ok(0));
-    let mut sink = MemorySink::new(rt.alloc(), vec![in rt.alloc(); 2]?);
-    assert_eq!(rt; sink.write(TEXT), Ok(18));
-    assert_eq!(rt; sink.write(TEXT), Err(SinkRefusal::Failed));
-    assert_eq!(rt; sink.written(), TEXT);
-    Ok(())
+fn a_whole_source_gives_all_at_once(rt: HostRuntime) {
+    let bytes = TEXT.to_vec(rt.alloc()).expect(&rt, "memory");
+    let mut source = MemorySource::new(bytes, Vec::new(rt.alloc()));
+    let mut into = [0; 64];
+    expect_same(&rt, "all", source.read(&mut into), Ok(18));
+    expect_same(&rt, "the end", source.read(&mut into), Ok(0));
+}
+
+#[test]
+fn a_whole_sink_takes_all_at_once(rt: HostRuntime) {
+    let planned = vec![in rt.alloc(); 2].expect(&rt, "memory");
+    let mut sink = MemorySink::new(rt.alloc(), planned);
+    let failed = Err(SinkRefusal::Failed);
+    expect_same(&rt, "all", sink.write(TEXT), Ok(18));
+    expect_same(&rt, "call 2", sink.write(TEXT), failed);
+    expect_same(&rt, "written", sink.written(), TEXT);
 }
 
 // A writer that takes no byte of any piece, and counts its calls.
@@ -141,36 +159,37 @@ impl Write for &mut Stuck {
 fn a_write_that_takes_nothing_is_a_fault(rt: HostRuntime) {
     let mut stuck = Stuck { calls: 0 };
     let mut sink = StandardSink::over(&mut stuck);
-    assert_eq!(rt; write_all(&mut sink, b""), Ok(()));
-    assert_eq!(rt; write_all(&mut sink, b"{}\n"), Err(SinkRefusal::Failed));
+    expect_same(&rt, "no byte", write_all(&mut sink, b""), Ok(()));
+    let failed = Err(SinkRefusal::Failed);
+    expect_same(&rt, "a line", write_all(&mut sink, b"{}\n"), failed);
     drop(sink);
     let Stuck { calls } = stuck;
-    assert_eq!(rt; calls, 1, "one write was tried");
+    expect_same(&rt, "one write was tried", calls, 1);
 }
 
 #[test]
-fn readers_and_writers_of_std_are_streams(rt: HostRuntime) -> Result<(), Fail> {
+fn a_reader_of_std_is_a_source(rt: HostRuntime) {
     let mut source = StandardSource::over(TEXT);
-    let (got, refusal) = read_out(&rt, &mut source, 7)?;
-    assert_eq!(rt; got.as_slice(), TEXT);
-    assert_eq!(rt; refusal, None);
+    expect_read(&rt, rt.alloc(), "a reader", &mut source, (TEXT, None));
+}
+
+#[test]
+fn a_writer_of_std_is_a_sink(rt: HostRuntime) {
     let mut text = Vec::new(rt.alloc());
     let mut sink = StandardSink::over(&mut text);
-    assert_eq!(rt; write_all(&mut sink, b"a line\n"), Ok(()));
-    assert_eq!(rt; write_all(&mut sink, b"and one more\n"), Ok(()));
+    expect_same(&rt, "a line", write_all(&mut sink, b"a line\n"), Ok(()));
+    let more = write_all(&mut sink, b"and one more\n");
+    expect_same(&rt, "and one more", more, Ok(()));
     drop(sink);
-    assert_eq!(rt; text.as_slice(), b"a line\nand one more\n".as_slice());
-    Ok(())
+    let want = b"a line\nand one more\n".as_slice();
+    expect_same(&rt, "both", text.as_slice(), want);
 }
 
 // Standard input and output hold what they hold: a test has an empty input.
 #[test]
-fn the_standard_streams_answer(rt: HostRuntime) -> Result<(), Fail> {
+fn the_standard_streams_answer(rt: HostRuntime) {
     let mut source = StandardSource::new(&rt);
-    let (got, refusal) = read_out(&rt, &mut source, 16)?;
-    assert_eq!(rt; got.len(), 0);
-    assert_eq!(rt; refusal, None);
+    expect_read(&rt, rt.alloc(), "input", &mut source, (b"", None));
     let mut sink = StandardSink::new(&rt);
-    assert_eq!(rt; write_all(&mut sink, b"a line\n"), Ok(()));
-    Ok(())
+    expect_same(&rt, "output", write_all(&mut sink, b"a line\n"), Ok(()));
 }

@@ -2,7 +2,8 @@
 ghost use Rattle.std.specs.Prelude.{◌≡◌, ◌≢◌, ℕ, ◌+◌, ◌-◌, ◌<◌, ◌≤◌, ◌^◌, length, take, drop, min, IfOk, OnOk, OnErr, IsErrOf};
 ghost use Rattle.disk_trait.specs.declared.DiskRefusal.TheVariants.{NoMemory};
 ghost use Rattle.disk_trait.specs.View.{Image, View, Tells};
-ghost use Rattle.disk_trait.specs.Calls.{written, Torn, Shorn, Moved, Follows, TimePasses, Fewer, Same, Cause, KeepsOthers, Rose};
+ghost use Rattle.disk_trait.specs.Calls.{written, Torn, Shorn, Moved, Follows, TimePasses, Fewer, Same, Cause, KeepsOthers};
+ghost use Rattle.fault_count.specs.OneMore.{IsOneMore};
 
 use crate::DiskRefusal;
 
@@ -90,7 +91,7 @@ pub trait Disk {
         ensures tells { Tells (view self.old) → Tells (view self.new) }
         ensures time { TimePasses (view self.old) (view self.new) }
         ensures faults { (view self.old).faults ≤ (view self.new).faults }
-        ensures counted { Rose (view self.old).restarts (view self.new).restarts }
+        ensures counted { IsOneMore (view self.old).restarts (view self.new).restarts }
         ensures no_less { (view self.old).restarts ≤ (view self.new).restarts }
         ensures spares { (view self.old).spares → (view self.new).spares };
 }

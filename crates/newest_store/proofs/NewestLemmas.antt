@@ -1,5 +1,6 @@
 -- Which of two files is the newest, and what the files stand for then.
 use Rattle.std.proofs.Common.{◌≡◌, ◌≢◌, ◌⊎◌, inl, inr, ⊎_elim, ℕ, ◌<◌, ◌≤◌, List, [], ◌∷◌, ◌++◌, All, take, drop, Option, None, Some, refl, sym, ◌∙◌, ap, subst, arith, length, length-append}
+use Rattle.std.specs.List.{flat_map}
 use Rattle.std.proofs.lemmas.Bool.{cases_eq}
 use Rattle.std.proofs.lemmas.List.{drop-drop}
 use Rattle.std.proofs.lemmas.List.Elements.{All-cons, All-nil, All-head}
@@ -20,9 +21,11 @@ use Rattle.store_journal.specs.Created.{IsUnsealed}
 use Rattle.store_journal.specs.Fault.{offset_if_fault, shifted, IsDamagedAt}
 use Rattle.store_journal.specs.Loading.{IsIdentified, IsUnidentifiedAt}
 use Rattle.store_journal.specs.Stands.{version_in, IsOlder}
+use Rattle.store_journal.specs.declared.store.Store.{Store}
 use Rattle.store_journal.proofs.FaultLemmas.{text_is_whole}
 use Rattle.store_journal.proofs.StandsLemmas.{within_head}
-use Rattle.newest_store.specs.Newest.{IsHeaded, HasStore, IsNewest, IsDamagedIn}
+use Rattle.store_journal.proofs.TextOnce.{text_once}
+use Rattle.newest_store.specs.Newest.{IsHeaded, HasStore, IsNewest, IsNewestStore, IsDamagedIn}
 
 -- a file whose store is known has a header, or no seal
 pub identified_is_headed : (bytes : List ℕ) (found : Option StoreId) → IsIdentified bytes found → IsHeaded bytes
@@ -94,6 +97,18 @@ second_alone m second not is = record {
   greatest = λ f within ne. file_cases (λ k. k ≢ 1 → IsBefore m 1 k) f within (λ other sealed. absurd (not sealed)) (λ other sealed. absurd (other refl)) ne;
 }
 
+-- one file alone is the newest
+pub newest_once : (m : Image) (file other : ℕ) → IsNewest m file → IsNewest m other → file ≡ other
+newest_once m file other one two = ⊎_elim (λ same. same)
+    (λ ne.
+    let before = two.greatest file one.one_of_two ne one.sealed in
+    let after = one.greatest other two.one_of_two (λ e. ne (sym e)) two.sealed in
+    absurd (⊎_elim
+    (λ less. ⊎_elim (λ more. omega (arith, less, more)) (λ equal. omega (arith, less, equal.0)) after)
+    (λ same. ⊎_elim (λ more. omega (arith, same.0, more)) (λ equal. omega (arith, same.1, equal.1)) after)
+    before))
+    (cases_eq file other)
+
 -- what `HasStore` says of a file
 pub record StandsAt (partition partitions : ℕ) (id : StoreId) (changes : List Change) (m : Image) (file : ℕ) : Type 0 where
   pub one_of_two : file ≤ 1
@@ -144,27 +159,19 @@ found_at partition partitions file id changes m has =
     ))
     (two_offsets (m 0) (m 1) s.newest s.before s.after s.offset)
 
--- the newest file is the one for which the files stand
-pub same_file : (partition partitions : ℕ) (id : StoreId) (changes : List Change) (m : Image) (file other : ℕ) → StandsAt partition partitions id changes m file → IsNewest m other → file ≡ other
-same_file partition partitions id changes m file other at newest = ⊎_elim (λ same. same)
-    (λ ne.
-    let less = at.older other newest.one_of_two (λ e. ne (sym e)) newest.sealed in
-    absurd (⊎_elim (λ more. omega (arith, less, more)) (λ equal. omega (arith, less, equal.0)) (newest.greatest file at.one_of_two ne at.store.text.sealed)))
-    (cases_eq file other)
-
--- so what `HasStore` says, it says of its own file
-pub stands_at : (partition partitions file : ℕ) (id : StoreId) (changes : List Change) (m : Image) → HasStore partition partitions file id changes m → StandsAt partition partitions id changes m file
-stands_at partition partitions file id changes m has =
-    let found = found_at partition partitions file id changes m has in
-    subst (StandsAt partition partitions id changes m) (same_file partition partitions id changes m found.0 file found.1 has.newest) found.1
-
--- and such a file is the newest
+-- the file for which they stand is the newest
 newest_at : (partition partitions : ℕ) (id : StoreId) (changes : List Change) (m : Image) (file : ℕ) → StandsAt partition partitions id changes m file → IsNewest m file
 newest_at partition partitions id changes m file at = record {
   one_of_two = at.one_of_two;
   sealed = at.store.text.sealed;
   greatest = λ f within ne sealed. inl (at.older f within ne sealed);
 }
+
+-- so what `HasStore` says, it says of its own file
+pub stands_at : (partition partitions file : ℕ) (id : StoreId) (changes : List Change) (m : Image) → HasStore partition partitions file id changes m → StandsAt partition partitions id changes m file
+stands_at partition partitions file id changes m has =
+    let found = found_at partition partitions file id changes m has in
+    subst (StandsAt partition partitions id changes m) (newest_once m found.0 file (newest_at partition partitions id changes m found.0 found.1) has.newest) found.1
 
 same_contents : (some all : List Change) → some ≡ all → SameContents some all
 same_contents some all same = record {
@@ -223,12 +230,32 @@ pub undamaged : (partition partitions file : ℕ) (id : StoreId) (changes : List
 undamaged partition partitions file id changes m f offset has damaged = ⊎_elim
     (λ header. headed_is_identified (m f) offset (has.headed f damaged.one_of_two) header.0)
     (λ rest.
-    let found = stands_at partition partitions file id changes m has in
-    let at = subst (StandsAt partition partitions id changes m) (same_file partition partitions id changes m file f found rest.1) found in
+    let at = subst (StandsAt partition partitions id changes m) (newest_once m file f has.newest rest.1) (stands_at partition partitions file id changes m has) in
     let one : IsDamagedAt (m f) at.header.id.partition partitions offset = subst (λ (p : ℕ). IsDamagedAt (m f) p partitions offset) (sym at.of_partition) rest.2 in
     let two : IsDamagedAt (m f) at.header.id.partition at.header.partitions offset = subst (λ (p : ℕ). IsDamagedAt (m f) at.header.id.partition p offset) (sym at.of_partitions) one in
     text_is_whole at.header at.store.groups (m f) offset at.store.text two)
     damaged.first
+
+-- nor are those of which the newest has a store
+pub newest_undamaged : (partition partitions : ℕ) (store : Store) (mutations : List Mutation) (m : Image) (f offset : ℕ) → IsNewestStore partition partitions store mutations m → IsDamagedIn m partition partitions f offset → ⊥
+newest_undamaged partition partitions store mutations m f offset is damaged = ⊎_elim
+    (λ header. headed_is_identified (m f) offset (is.headed f damaged.one_of_two) header.0)
+    (λ rest.
+    let here : f ≡ store.file = newest_once m f store.file rest.1 is.newest in
+    let at : IsDamagedAt (m store.file) partition partitions offset = subst (λ (k : ℕ). IsDamagedAt (m k) partition partitions offset) here rest.2 in
+    text_is_whole (record { id = store.id; partitions = partitions }) is.groups (m store.file) offset is.kept.text
+    (subst (λ (p : ℕ). IsDamagedAt (m store.file) p partitions offset) (sym is.of_partition) at))
+    damaged.first
+
+-- where the files have a store, the newest store is that one
+pub store_contents : (partition partitions : ℕ) (store : Store) (mutations : List Mutation) (file : ℕ) (id : StoreId) (changes : List Change) (m : Image) → IsNewestStore partition partitions store mutations m
+    → HasStore partition partitions file id changes m → (store.file ≡ file) × (store.id ≡ id) × (changes_of mutations ≡ changes)
+store_contents partition partitions store mutations file id changes m is has =
+    let here : file ≡ store.file = newest_once m file store.file has.newest is.newest in
+    let at = subst (StandsAt partition partitions id changes m) here (stands_at partition partitions file id changes m has) in
+    let once = text_once (record { id = store.id; partitions = partitions }) at.header is.groups at.store.groups (m store.file) is.kept.text at.store.text in
+    let same : mutations ≡ at.mutations = is.joined ∙ ap (λ (gs : List (List Mutation)). flat_map (λ group. group) gs) once.1 ∙ sym at.store.joined in
+    (sym here, ap (λ (h : Header). h.id) once.0 ∙ at.named, ap (λ (ms : List Mutation). changes_of ms) same ∙ at.exact)
 
 -- the two files alone decide
 pub has_store_in : (partition partitions file : ℕ) (id : StoreId) (changes : List Change) (m n : Image) → n 0 ≡ m 0 → n 1 ≡ m 1 → HasStore partition partitions file id changes m → HasStore partition partitions file id changes n

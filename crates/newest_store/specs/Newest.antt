@@ -7,7 +7,7 @@ use Rattle.disk_trait.specs.View.{Image, View}
 use Rattle.record_form.specs.HeaderFault.{header_fault}
 use Rattle.seal_gate.specs.Seal.{IsSealed, Each}
 use Rattle.store_ident.specs.declared.ident.StoreId.{StoreId}
-use Rattle.store_journal.specs.AtRest.{AtRest}
+use Rattle.store_journal.specs.AtRest.{IsKeptIn, AtRest}
 use Rattle.store_journal.specs.Created.{IsUnsealed}
 use Rattle.store_journal.specs.Fault.{IsDamagedAt}
 use Rattle.store_journal.specs.Loading.{IsUnidentifiedAt}
@@ -36,6 +36,16 @@ pub record HasStore (partition partitions file : ℕ) (id : StoreId) (changes : 
   pub stands : StandsFor (files_of m) partition partitions changes
   pub named : stands.header.id ≡ id
   pub exact : changes_of stands.mutations ≡ changes
+  pub headed : (f : ℕ) → f ≤ 1 → IsHeaded (m f)
+
+-- The newest file is that of this store, one of this partition: its bytes have the store's header and exactly these
+-- mutations, and the closed gate where the store says. And each file that is sealed has a header.
+pub record IsNewestStore (partition partitions : ℕ) (store : Store) (mutations : List Mutation) (m : Image) : Type 0 where
+  pub newest : IsNewest m store.file
+  pub groups : List (List Mutation)
+  pub joined : mutations ≡ flat_map (λ group. group) groups
+  pub kept : IsKeptIn store (record { id = store.id; partitions = partitions }) groups (m store.file)
+  pub of_partition : store.id.partition ≡ partition
   pub headed : (f : ℕ) → f ≤ 1 → IsHeaded (m f)
 
 -- the store rests in its file, as one of this partition, and has these mutations; the other file isn't sealed

@@ -61,3 +61,4 @@ pub record IsNewestLoaded (old new : View) (partition partitions : ℕ) (store :
   pub of_partition : store.id.partition ≡ partition
   pub one_of_two : store.file ≤ 1
   pub newest : Tells old → IsNewest old.seen store.file
+  pub headed : Tells old → (f : ℕ) → f ≤ 1 → IsHeaded (old.seen f)

@@ -3,11 +3,12 @@ ghost use Rattle.std.specs.Prelude.{◌≡◌, ◌≢◌, ◌⊎◌, ℕ, ◌≤
 ghost use Rattle.cache_model.specs.Change.{Change, changes_of};
 ghost use Rattle.disk_trait.specs.View.{Image, View, Tells};
 ghost use Rattle.disk_trait.specs.Calls.{Rose, Same};
-ghost use Rattle.disk_trait.specs.Moments.{Now, Throughout, Onward};
+ghost use Rattle.disk_trait.specs.Moments.{Now, After, Throughout, Onward};
 ghost use Rattle.seal_gate.specs.Seal.{IsSettled};
 ghost use Rattle.store_ident.specs.declared.ident.StoreId.{StoreId};
 ghost use Rattle.store_journal.specs.Created.{IsUnsealed};
-ghost use Rattle.newest_store.specs.Newest.{HasStore, IsNewest, IsOpened, IsDamagedIn};
+ghost use Rattle.newest_store.specs.Newest.{HasStore, IsNewestStore, IsOpened, IsDamagedIn};
+ghost use Rattle.newest_store.specs.Clearing.{ErasesOlder};
 ghost use Rattle.newest_store.specs.declared.fault.NewestFault.{NewestFault};
 ghost use Rattle.newest_store.specs.declared.fault.NewestFault.TheVariants.{NoStore, Damaged, Failed, NoMemory};
 
@@ -31,9 +32,9 @@ pub fn load_newest<D: Disk>(
     requires first { IsSettled (D.view disk.old) 0 }
     requires second { IsSettled (D.view disk.old) 1 }
 
-    // After Ok one store is left, the newest, and it has what the files stood for.
+    // After Ok one store is left: the newest, with exactly what its file had, whatever the other file held.
     ensures opened { IfOk result (λ loaded. IsOpened (D.view disk.new) partition partitions loaded.store loaded.mutations.items) }
-    ensures newest { IfOk result (λ loaded. Tells (D.view disk.old) → IsNewest (D.view disk.old).seen loaded.store.file) }
+    ensures read { IfOk result (λ loaded. Tells (D.view disk.old) → IsNewestStore partition partitions loaded.store loaded.mutations.items (D.view disk.old).seen) }
     ensures contents { IfOk result (λ loaded. (file : ℕ) (id : StoreId) (changes : List Change) → Now (D.view disk.old) (HasStore partition partitions file id changes) → Tells (D.view disk.old)
         → (loaded.store.file ≡ file) × (loaded.store.id ≡ id) × (changes_of loaded.mutations.items ≡ changes)) }
 
@@ -44,9 +45,14 @@ pub fn load_newest<D: Disk>(
     ensures whole { (file : ℕ) (id : StoreId) (changes : List Change) (fault : NewestFault) → IsErrOf result fault → Now (D.view disk.old) (HasStore partition partitions file id changes) → Tells (D.view disk.old)
         → (fault ≡ Failed) ⊎ (fault ≡ NoMemory) }
 
-    // At every moment, and after a refusal, the files stand for what they stood for.
+    // At every moment, and after a refusal, the newest file is as it was: the files stand for what they stood for.
+    ensures moments { Throughout (D.view disk.old) (D.view disk.new) (After (D.view disk.old) ErasesOlder) }
     ensures survives { (file : ℕ) (id : StoreId) (changes : List Change) → Now (D.view disk.old) (HasStore partition partitions file id changes)
         → Throughout (D.view disk.old) (D.view disk.new) (HasStore partition partitions file id changes) }
+
+    // Nothing is erased before the newest is whole.
+    ensures spoiled { (file at : ℕ) → Tells (D.view disk.old) → IsDamagedIn (D.view disk.old).seen partition partitions file at
+        → Same (D.view disk.old) (D.view disk.new) × Throughout (D.view disk.old) (D.view disk.new) (D.view disk.old).images }
     ensures unsealed { (file : ℕ) → file ≤ 1 → Now (D.view disk.old) (λ m. IsUnsealed (m file)) → Throughout (D.view disk.old) (D.view disk.new) (λ m. IsUnsealed (m file)) }
     ensures as_before { (fault : NewestFault) → IsErrOf result fault → fault ≢ Failed → fault ≢ NoMemory → Same (D.view disk.old) (D.view disk.new) }
     ensures blank { Tells (D.view disk.old) → ((file : ℕ) → file ≤ 1 → IsUnsealed ((D.view disk.old).seen file)) → Same (D.view disk.old) (D.view disk.new) }

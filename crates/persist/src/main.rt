@@ -1,9 +1,9 @@
 //! `persist`: the real streams and the site of a run, the top call, and its status as the process's exit code.
 //!
-//! Seen as: the words of the command line, standard input and standard output, over a disk in memory.
-//! Keeps: nothing of its own; what a run does is `run_steps` (cluster_cli). What was wrong with the words or a line is
+//! Seen as: the arguments, standard input and standard output, over a disk in memory.
+//! Keeps: nothing of its own; what a run does is `run_steps` (cluster_cli). What was wrong with the arguments or a line is
 //!   printed on standard error, which no clause speaks of.
-//! Hides: that words which aren't text plan no run.
+//! Hides: that arguments which aren't text plan no run.
 //! Not here: how the program is proved, built and run unproved (the launcher ./persist).
 #![tactic(auto)]
 
@@ -19,6 +19,7 @@ const NO_MEMORY: u8 = 5;
 fn main(rt: HostRuntime) -> ExitCode {
     let alloc = rt.alloc();
     let mut words = Vec::new(alloc);
+    let mut are_text = true;
     match env::args(&rt) {
         Ok(arguments) => {
             for word in arguments.skip(1) {
@@ -28,8 +29,8 @@ fn main(rt: HostRuntime) -> ExitCode {
             }
         }
         Err(fault) if fault.kind() == ErrorKind::OutOfMemory => return ExitCode::from(NO_MEMORY),
-        // Arguments that aren't text are no words, and no words have no plan.
-        Err(_) => {}
+        // No arguments plan no run, and neither do arguments that aren't text.
+        Err(_) => are_text = false,
     }
     let words = words.as_slice();
     let Ok(site) = memory_site(alloc, words) else {
@@ -38,8 +39,10 @@ fn main(rt: HostRuntime) -> ExitCode {
     let mut source = StandardSource::new(&rt);
     let mut sink = StandardSink::new(&rt);
     let ended = run_steps(&rt, alloc, words, &mut source, &mut sink, site);
-    if let Some(reason) = ended.reason {
-        // The status says that something was wrong, also where this can't be printed.
+    // The status says that something was wrong, also where this can't be printed.
+    if !are_text {
+        let _ = eprintln!(rt; "persist: an argument is not UTF-8");
+    } else if let Some(reason) = ended.reason {
         let _ = eprintln!(rt; "persist: {reason}");
     }
     ExitCode::from(ended.status)

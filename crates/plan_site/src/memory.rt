@@ -12,8 +12,8 @@ use disk_memory::{DiskPlan, MemoryDisk};
 use plan_words::{WordFault, site_plan};
 use std::alloc::{AllocError, Global};
 
-/// The site of the words' plan, with an empty disk in memory, which fails from the call of the words' cut on and of which
-/// a restart takes the image of their pick. For words that have no plan, a site without hosts and disks.
+/// The site of the arguments' plan, with an empty disk in memory, which fails from the call of their cut on and of which a
+/// restart takes the image of their pick. For arguments that have no plan, a site without hosts and disks.
 pub fn memory_site(alloc: Global, words: &[String]) -> Result<Site<MemoryDisk, ()>, AllocError>
     ensures site { IfOk result (λ site. IsSiteOf (words_of words.now) site.hosts.items site.partitions) }
     ensures lanes { IfOk result (λ site. HasLanes site.lanes.items site.partitions (vec_len site.hosts)) }

@@ -14,7 +14,7 @@ use thiserror::Error;
 /// The number of partitions of every plan.
 const PARTITIONS: u16 = 1;
 
-/// The last image that a stop may leave, from 0.
+/// The greatest number that `--pick` takes.
 pub(crate) const LAST_IMAGE: u8 = 3;
 
 const LAST_DIGIT: u8 = b'0' + LAST_IMAGE;
@@ -36,8 +36,8 @@ pub struct Plan {
     pub partitions: u16,
     /// The hosts, in byte order.
     pub hosts: Vec<HostName>,
-    /// The first changing call of the one disk that fails, counted from 1. All later calls fail until the disk is
-    /// restarted.
+    /// The first changing call of the one disk that fails, counted from 1. It and each later changing call fail until
+    /// the disk is restarted.
     pub cut: Option<u64>,
     /// Which of the images that a stop may leave the disk has after its restart: docs/SCRIPT.md.
     pub pick: u8,

@@ -4,3 +4,4 @@ pub mod ReadingLemmas
 pub mod GroupSpelling
 pub mod GroupFound
 pub mod GroupLaws
+pub mod FaultBounds

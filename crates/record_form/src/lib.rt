@@ -7,7 +7,7 @@
 //! `group_fault`, specs/GroupFault.antt). That a spelling is of one header or group: `laws`.
 //! Hides: that all bytes are judged before memory is taken for the texts.
 //! Not here: where a header and its groups stand in a file, and which gate is open (store_journal).
-//! Laws: GroupFound, GroupLaws, GroupLemmas, HeaderLemmas.
+//! Laws: FaultBounds, GroupFound, GroupLaws, GroupLemmas, HeaderLemmas.
 #![tactic(auto)]
 
 mod encode;

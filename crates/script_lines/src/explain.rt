@@ -104,26 +104,48 @@ fn unknown_member(value: &Json, wanted: &str) -> Excerpt {
 /// Why the line is no JSON.
 fn json_reason(line: &[u8], error: &serde_json::Error) -> LineReason {
     let text = line.trim_ascii_start();
-    let column = error.column();
     if line.starts_with(b"\xef\xbb\xbf") {
-        LineReason::ByteOrderMark
-    } else if text.is_empty() {
-        LineReason::Blank
-    } else if text.starts_with(b"#") || text.starts_with(b"//") {
-        LineReason::Comment
-    } else if std::str::from_utf8(line).is_err() {
-        LineReason::NotUtf8 { column }
-    } else if let Some(column) = too_deep_at(line, column) {
+        return LineReason::ByteOrderMark;
+    }
+    if text.is_empty() {
+        return LineReason::Blank;
+    }
+    if text.starts_with(b"#") || text.starts_with(b"//") {
+        return LineReason::Comment;
+    }
+    if let Err(fault) = std::str::from_utf8(line) {
+        return LineReason::NotUtf8 {
+            column: fault.valid_up_to().saturating_add(1),
+        };
+    }
+    let column = error.column();
+    let nesting = nesting_up_to(line, column);
+    if let Some(column) = nesting.too_deep_at {
         LineReason::TooDeep { column }
     } else if error.is_eof() {
         LineReason::CutShort
+    } else if matches!(nesting.closed_at, Some(end) if end < column) {
+        LineReason::Following { column }
     } else {
         LineReason::NotJson { column }
     }
 }
 
-/// The column of the first list or object that nests deeper than is read, if it begins before the column or there.
-fn too_deep_at(line: &[u8], column: usize) -> Option<usize> {
+/// How lists and objects nest in the first bytes of a line, by columns.
+#[derive(Clone, Copy, Drop)]
+struct Nesting {
+    /// Where the first begins that nests deeper than is read.
+    too_deep_at: Option<usize>,
+    /// Where the outermost ends, the first if there are several.
+    closed_at: Option<usize>,
+}
+
+/// How lists and objects nest up to the column.
+fn nesting_up_to(line: &[u8], column: usize) -> Nesting {
+    let mut nesting = Nesting {
+        too_deep_at: None,
+        closed_at: None,
+    };
     let mut depth = 0u32;
     let mut in_text = false;
     let mut is_escaped = false;
@@ -137,9 +159,12 @@ fn too_deep_at(line: &[u8], column: usize) -> Option<usize> {
             b']' | b'}' if !in_text => depth = depth.saturating_sub(1),
             _ => (),
         }
-        if depth > MOST_DEPTH {
-            return Some(index + 1);
+        if depth > MOST_DEPTH && nesting.too_deep_at.is_none() {
+            nesting.too_deep_at = Some(index + 1);
+        }
+        if depth == 0 && nesting.closed_at.is_none() && matches!(*byte, b']' | b'}') {
+            nesting.closed_at = Some(index + 1);
         }
     }
-    None
+    nesting
 }

@@ -4,7 +4,7 @@
 //! Keeps: a line is refused by its form exactly if it is no command (`HasNoForm`), running out of memory aside. The
 //!   reason of a refusal is for a person: no clause speaks of it.
 //! Hides: how the members of an object are looked up.
-//! Not here: what a command does (cluster_cli), how an answer is printed (report_lines).
+//! Not here: what a command does (cluster_commands), how an answer is printed (report_lines).
 //! Commands: docs/SCRIPT.md.
 #![tactic(auto)]
 

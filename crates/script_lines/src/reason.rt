@@ -16,7 +16,7 @@ pub enum LineReason {
     Comment,
     /// It has nothing but blanks.
     Blank,
-    /// It is UTF-8 up to this column.
+    /// The character at this column is the first that isn't UTF-8.
     NotUtf8 {
         column: usize,
     },
@@ -24,6 +24,10 @@ pub enum LineReason {
     CutShort,
     /// The reader of JSON stopped at this column.
     NotJson {
+        column: usize,
+    },
+    /// Something stands at this column, after the end of a list or an object.
+    Following {
         column: usize,
     },
     /// Lists and objects nest too deep from this column on.
@@ -157,6 +161,10 @@ impl fmt::Display for LineReason {
             LineReason::NotJson { column } => write!(
                 f,
                 "it is not JSON: reading stopped at column {column}"
+            ),
+            LineReason::Following { column } => write!(
+                f,
+                "something follows the command at column {column}, and a line is one command"
             ),
             LineReason::TooDeep { column } => write!(
                 f,

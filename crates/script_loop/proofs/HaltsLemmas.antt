@@ -1,19 +1,18 @@
 -- How far a run has come that halts on a line.
-use Rattle.std.proofs.Common.{◌≡◌, ◌≢◌, ℕ, ◌+◌, ◌<◌, ◌≤◌, List, [], ◌∷◌, ◌++◌, length, refl, sym, ◌∙◌, ap, subst, append_assoc, arith, length-append, Option}
+use Rattle.std.proofs.Common.{◌≡◌, ◌≢◌, inr, ℕ, ◌+◌, ◌<◌, ◌≤◌, List, [], ◌∷◌, ◌++◌, length, refl, sym, ◌∙◌, ap, subst, append_assoc, arith, length-append, Option}
 use Rattle.std.specs.Prelude.{flat_map}
 use Rattle.std.proofs.lemmas.List.{append-nil}
 use mathlib.Core.Logic.{dite}
 use native.Mathlib.Decide.{ℕ_discrete}
 use Rattle.byte_streams.specs.Streams.{Adds}
-use Rattle.byte_streams.proofs.StreamsLemmas.{prefix_joined}
 use Rattle.script_lines.specs.Form.{HasNoForm}
 use Rattle.script_loop.specs.Chain.{Answers, Breaks, Span, between, unbroken}
 use Rattle.script_loop.specs.Faults.{FollowsLine, IsPastLimit, is_long, is_late, is_far, IsFaulty, is_past, is_no_command}
 use Rattle.script_loop.specs.Halts.{StopsAt, HaltsWith}
-use Rattle.script_loop.specs.Kinds.{at_answer, in_line, IsPrefixReport}
+use Rattle.script_loop.specs.Kinds.{at_answer, in_line, IsCutReport}
 use Rattle.script_loop.specs.Lines.{IsCutLine, not_begun, broken_off, answered, HaltsInLine}
 use Rattle.script_loop.specs.Progress.{HaltsHold, Reached, Advances, HaltsIn}
-use Rattle.script_loop.specs.Report.{report_of, AddsReportPrefix}
+use Rattle.script_loop.specs.Report.{report_of}
 use Rattle.script_loop.specs.Script.{line_feed, ended, HasNoLineFeed}
 use Rattle.script_loop.specs.declared.session.Session.{Session}
 use Rattle.script_loop.specs.declared.session.Halt.{Halt}
@@ -88,9 +87,9 @@ past_more lines passed held feed size feeds within all (is_far far) = is_far (om
 
 -- nothing is done of the bytes that came
 nothing_more : {M : Type 0} (span : Span M) (read bytes rest : List ℕ) (before : Option (List ℕ)) (session : Session) (v : M) (was : Option (List ℕ))
-    → Reached span.answers span.first read before session v was → span.ends v → AddsReportPrefix (IsPrefixReport span ((read ++ bytes) ++ rest)) before was
+    → Reached span.answers span.first read before session v was → span.ends v → IsCutReport span ((read ++ bytes) ++ rest) before was
 nothing_more span read bytes rest before session v was so_far end =
-    subst (λ (s : List ℕ). AddsReportPrefix (IsPrefixReport span s) before was) (sym (append_assoc read bytes rest)) (prefix_so_far span read (bytes ++ rest) before session v was was so_far refl (at_answer end))
+    subst (λ (s : List ℕ). IsCutReport span s before was) (sym (append_assoc read bytes rest)) (prefix_so_far span read (bytes ++ rest) before session v was was so_far refl (at_answer end))
 
 -- bytes that the line under way doesn't take
 pub hold_halts : {M : Type 0} (does : Answers M) (breaks : Breaks M) (session : Session) (v : M) (was : Option (List ℕ)) (more : List ℕ) (halt : Halt) → HasNoLineFeed more
@@ -127,25 +126,30 @@ limit_halts does breaks session v was rest size n no_feed size_is number past fi
 line_cut : {M : Type 0} (does : Answers M) (breaks : Breaks M) (first : M) (given tail rest : List ℕ) (before : Option (List ℕ)) (session : Session) (v w : M) (was now : Option (List ℕ)) (line : List ℕ)
     → Reached does first given before session v was
     → line ≡ session.partial.items ++ tail → HasNoLineFeed tail → length line ≤ 1048576 → (0 < length line → session.lines < 100000) → session.passed + length line ≤ 67108864
-    → FollowsLine rest → IsCutLine (between does breaks v w) line was now → AddsReportPrefix (IsPrefixReport (between does breaks first w) (given ++ (tail ++ rest))) before now
+    → FollowsLine rest → IsCutLine (between does breaks v w) line was now → IsCutReport (between does breaks first w) (given ++ (tail ++ rest)) before now
 line_cut does breaks first given tail rest before session v w was now line so_far line_is no_feed short below small follows (not_begun same end) =
     prefix_so_far (between does breaks first w) given (tail ++ rest) before session v was now so_far same (at_answer end)
 line_cut does breaks first given tail rest before session v w was now line so_far line_is no_feed short below small follows (broken_off same command last spelled broken end) =
     prefix_so_far (between does breaks first w) given (tail ++ rest) before session v was now so_far same
     (in_line line rest command last (sym (append_assoc session.partial.items tail rest) ∙ ap (λ (l : List ℕ). l ++ rest) (sym line_is))
-    (subst (λ (l : List ℕ). HasNoLineFeed l) (sym line_is) (all_append (λ (byte : ℕ). byte ≢ line_feed) session.partial.items tail so_far.split.rest no_feed)) follows spelled broken end)
-line_cut does breaks first given tail rest before session v w was now line so_far line_is no_feed short below small follows (answered text last step end prefix) = record {
-  report = report_of so_far.answers ++ text;
-  is = record {
-    prefix = given ++ tail;
-    rest = rest;
-    last = last;
-    script_is = sym (append_assoc given tail rest);
-    is = report_of_line does first given before session v was tail line text last so_far line_is no_feed short below small step;
-    ends = at_answer end;
-  };
-  added = prefix_joined before was now (report_of so_far.answers) text so_far.added prefix;
-}
+    (subst (λ (l : List ℕ). HasNoLineFeed l) (sym line_is) (all_append (λ (byte : ℕ). byte ≢ line_feed) session.partial.items tail so_far.split.rest no_feed)) follows spelled broken end refl)
+line_cut does breaks first given tail rest before session v w was now line so_far line_is no_feed short below small follows (answered text last step end prefix) =
+    let whole = report_of_line does first given before session v was tail line text last so_far line_is no_feed short below small step in
+    record {
+      shown = report_of so_far.answers;
+      tail = text;
+      is = record {
+        prefix = given ++ tail;
+        rest = rest;
+        last = last;
+        script_is = sym (append_assoc given tail rest);
+        is = whole.is;
+        at_line = inr follows;
+        tail_is = whole.text_is;
+        ends = at_answer end;
+      };
+      added = record { mid = was; added = so_far.added; cut = prefix };
+    }
 
 not_none : (line : List ℕ) → line ≢ [] → 0 < length line
 not_none [] some = absurd (some refl)
@@ -164,10 +168,10 @@ line_halts does breaks first given tail rest read after before session v w was n
     (is_no_command (subst (λ (l : List ℕ). l ≢ []) line_is some) (subst (λ (l : List ℕ). HasNoForm l) line_is refused.no_command))
 line_halts does breaks first given tail rest read after before session v w was now line number ReadFault so_far line_is no_feed short below small number_is follows is reach none = absurd none
 line_halts does breaks first given tail rest read after before session v w was now line number WriteFault so_far line_is no_feed short below small number_is follows is reach is_cut =
-    subst (λ (s : List ℕ). AddsReportPrefix (IsPrefixReport (unbroken (between does breaks first w)) s) before now) (sym is)
+    subst (λ (s : List ℕ). IsCutReport (unbroken (between does breaks first w)) s before now) (sym is)
     (line_cut does (λ old command new. ⊥) first given tail rest before session v w was now line so_far line_is no_feed short below small follows is_cut)
 line_halts does breaks first given tail rest read after before session v w was now line number NoMemory so_far line_is no_feed short below small number_is follows is reach is_cut =
-    subst (λ (s : List ℕ). AddsReportPrefix (IsPrefixReport (between does breaks first w) s) before now) (sym is)
+    subst (λ (s : List ℕ). IsCutReport (between does breaks first w) s before now) (sym is)
     (line_cut does breaks first given tail rest before session v w was now line so_far line_is no_feed short below small follows is_cut)
 
 -- the line under way, whose line feed has come, halts the run
@@ -205,8 +209,8 @@ with_more span read rest more less before (Faulty n reason) now is longer stop =
     let same : StopsAt span (more ++ less) read before n now = subst (λ (s : List ℕ). StopsAt span s read before n now) is stop in
     record { lines = same.lines; is = same.is; reaches = (let reach = same.reaches in omega (arith, reach, longer)); added = same.added }
 with_more span read rest more less before ReadFault now is longer none = absurd none
-with_more span read rest more less before WriteFault now is longer is_cut = subst (λ (s : List ℕ). AddsReportPrefix (IsPrefixReport (unbroken span) s) before now) is is_cut
-with_more span read rest more less before NoMemory now is longer is_cut = subst (λ (s : List ℕ). AddsReportPrefix (IsPrefixReport span s) before now) is is_cut
+with_more span read rest more less before WriteFault now is longer is_cut = subst (λ (s : List ℕ). IsCutReport (unbroken span) s before now) is is_cut
+with_more span read rest more less before NoMemory now is longer is_cut = subst (λ (s : List ℕ). IsCutReport span s before now) is is_cut
 
 -- bytes that halt the run, after others that didn't, and before others that weren't looked at
 pub halts_among : {M : Type 0} (does : Answers M) (breaks : Breaks M) (a b : Session) (u v w : M) (was mid now : Option (List ℕ)) (xs ys zs all : List ℕ) (halt : Halt)

@@ -1,20 +1,20 @@
 -- A run goes on by a line.
-use Rattle.std.proofs.Common.{◌≡◌, ◌≢◌, ℕ, ◌+◌, ◌<◌, ◌≤◌, List, [], ◌∷◌, ◌++◌, length, sym, ◌∙◌, ap, subst, append_assoc, arith, length-append, refl, Option}
+use Rattle.std.proofs.Common.{◌≡◌, ◌≢◌, inl, ℕ, ◌+◌, ◌<◌, ◌≤◌, List, [], ◌∷◌, ◌++◌, length, sym, ◌∙◌, ap, subst, append_assoc, arith, length-append, refl, Option}
 use Rattle.std.specs.Prelude.{flat_map}
 use Rattle.std.specs.List.{AllByRecursion}
 use Rattle.std.proofs.lemmas.List.{append-nil}
 use Rattle.std.proofs.lemmas.Grind.{flat_map-append}
-use Rattle.byte_streams.specs.Streams.{Adds, AddsPrefix}
-use Rattle.byte_streams.proofs.StreamsLemmas.{adds_none, adds_joined, whole_prefix}
+use Rattle.byte_streams.specs.Streams.{Adds}
+use Rattle.byte_streams.proofs.StreamsLemmas.{adds_none, adds_joined, no_prefix}
 use Rattle.script_lines.specs.declared.command.Command.{Command}
 use Rattle.script_lines.specs.declared.answer.Answer.{Answer}
 use Rattle.script_lines.specs.Form.{IsLineOf}
 use Rattle.script_loop.specs.Script.{line_feed, ended, HasNoLineFeed, IsSplit, IsWithinLineLimit, AreCommands}
 use Rattle.report_lines.specs.Line.{answer_line}
 use Rattle.script_loop.specs.Chain.{Answers, Breaks, Chain, Span, between}
-use Rattle.script_loop.specs.Kinds.{EndsAfter, IsPrefixReport}
+use Rattle.script_loop.specs.Kinds.{EndsAfter, IsPrefixReport, IsCutReport}
 use Rattle.script_loop.specs.Lines.{LineStep, IsAnswered}
-use Rattle.script_loop.specs.Report.{report_of, IsReportOf, AddsReportPrefix}
+use Rattle.script_loop.specs.Report.{report_of, IsLastLine, is_empty, is_last, IsReportOf}
 use Rattle.script_loop.specs.Progress.{Holds, Reached, Advances, IsFinished}
 use Rattle.script_loop.specs.declared.session.Session.{Session}
 
@@ -45,23 +45,25 @@ commands_empty ([] ∷ lines) cs so_far = commands_empty lines cs so_far
 commands_empty ((x ∷ xs) ∷ lines) [] so_far = absurd so_far
 commands_empty ((x ∷ xs) ∷ lines) (c ∷ cs) so_far = (so_far.0, commands_empty lines cs so_far.1)
 
--- the commands and answers with those of one line more
-pub record Grown {M : Type 0} (does : Answers M) (first : M) (lines : List (List ℕ)) (report : List ℕ) (new : M) : Type 0 where
+-- the commands and answers with those of one line more, whose answer's line is the text
+pub record Grown {M : Type 0} (does : Answers M) (first : M) (lines : List (List ℕ)) (shown text : List ℕ) (new : M) : Type 0 where
   pub commands : List Command
   pub answers : List Answer
   pub spelled : AreCommands lines commands
   pub run : Chain does first commands answers new
-  pub report_is : report_of answers ≡ report
+  pub report_is : report_of answers ≡ shown ++ text
+  pub text_is : IsLastLine answers text
 
 pub grown : {M : Type 0} (does : Answers M) (first : M) (lines : List (List ℕ)) (commands : List Command) (answers : List Answer) (old : M) (line text : List ℕ) (new : M)
     → AreCommands lines commands → Chain does first commands answers old → LineStep does old line text new
-    → Grown does first (lines ++ line ∷ []) (report_of answers ++ text) new
+    → Grown does first (lines ++ line ∷ []) (report_of answers) text new
 grown does first lines commands answers old [] text new spelled run step = record {
   commands = commands;
   answers = answers;
   spelled = commands_empty lines commands spelled;
   run = subst (λ s. Chain does first commands answers s) (sym step.1) run;
   report_is = rw step.0 (sym (append-nil (report_of answers)));
+  text_is = is_empty step.0;
 }
 grown does first lines commands answers old (byte ∷ bytes) text new spelled run step = record {
   commands = commands ++ step.command ∷ [];
@@ -69,6 +71,7 @@ grown does first lines commands answers old (byte ∷ bytes) text new spelled ru
   spelled = commands_more lines commands byte bytes step.command spelled step.line_is;
   run = chain_more does first commands answers old step.command step.answer new run step.step;
   report_is = flat_map-append answer_line answers (step.answer ∷ []) ∙ ap (λ (t : List ℕ). report_of answers ++ t) (append-nil (answer_line step.answer) ∙ sym step.text_is);
+  text_is = is_last answers step.answer refl step.text_is;
 }
 
 -- the lines with one more, whose line feed has come
@@ -134,61 +137,82 @@ hold_advances does old new v written more held no_feed = λ first read before so
 }
 
 -- the ended lines are a script of their own, and this is its report
-pub report_of_lines : {M : Type 0} (does : Answers M) (first last : M) (lines : List (List ℕ)) (commands : List Command) (answers : List Answer)
+pub prefix_of_lines : {M : Type 0} (span : Span M) (script : List ℕ) (lines : List (List ℕ)) (rest : List ℕ) (commands : List Command) (answers : List Answer) (last : M)
+    → script ≡ flat_map ended lines ++ rest
     → AllByRecursion HasNoLineFeed lines → AllByRecursion IsWithinLineLimit lines → length lines ≤ 100000 → length (flat_map ended lines) ≤ 67108864
-    → AreCommands lines commands → Chain does first commands answers last → IsReportOf does first (flat_map ended lines) (report_of answers) last
-report_of_lines does first last lines commands answers each short few small spelled run = record {
-  commands = commands;
-  answers = answers;
-  script_is = record {
-    lines = lines;
-    piece = [];
-    split = record { whole = sym (append-nil (flat_map ended lines)); each = each; rest = tt };
-    spelled = rw (append-nil lines) spelled;
-    short = rw (append-nil lines) short;
-    few = rw (append-nil lines) few;
-    small = small;
+    → AreCommands lines commands → Chain span.answers span.first commands answers last → EndsAfter span last rest [] → IsPrefixReport span script (report_of answers) []
+prefix_of_lines span script lines rest commands answers last script_is each short few small spelled run ends = record {
+  prefix = flat_map ended lines;
+  rest = rest;
+  last = last;
+  script_is = script_is;
+  is = record {
+    commands = commands;
+    answers = answers;
+    script_is = record {
+      lines = lines;
+      piece = [];
+      split = record { whole = sym (append-nil (flat_map ended lines)); each = each; rest = tt };
+      spelled = rw (append-nil lines) spelled;
+      short = rw (append-nil lines) short;
+      few = rw (append-nil lines) few;
+      small = small;
+    };
+    run = run;
+    lines = append-nil (report_of answers);
   };
-  run = run;
-  lines = refl;
+  at_line = inl refl;
+  tail_is = is_empty refl;
+  ends = ends;
 }
+
+-- the report of a script, in which the text is the line of the last answer
+pub record EndsWithLine {M : Type 0} (does : Answers M) (first : M) (script shown text : List ℕ) (last : M) : Type 0 where
+  pub is : IsReportOf does first script (shown ++ text) last
+  pub text_is : IsLastLine is.answers text
 
 -- The piece after the ended lines is a line, and is answered: the whole is a script of its own.
 pub report_with : {M : Type 0} (does : Answers M) (first : M) (script : List ℕ) (lines : List (List ℕ)) (commands : List Command) (answers : List Answer) (v : M) (line text : List ℕ) (state : M)
     → IsSplit script lines line → AllByRecursion IsWithinLineLimit lines → AreCommands lines commands → Chain does first commands answers v
     → length line ≤ 1048576 → (0 < length line → length lines < 100000) → length lines ≤ 100000 → length script ≤ 67108864
-    → LineStep does v line text state → IsReportOf does first script (report_of answers ++ text) state
+    → LineStep does v line text state → EndsWithLine does first script (report_of answers) text state
 report_with does first script lines commands answers v [] text state split within spelled run short below few small step = record {
-  commands = commands;
-  answers = answers;
-  script_is = record {
-    lines = lines;
-    piece = [];
-    split = split;
-    spelled = rw (append-nil lines) spelled;
-    short = rw (append-nil lines) within;
-    few = rw (append-nil lines) few;
-    small = small;
+  is = record {
+    commands = commands;
+    answers = answers;
+    script_is = record {
+      lines = lines;
+      piece = [];
+      split = split;
+      spelled = rw (append-nil lines) spelled;
+      short = rw (append-nil lines) within;
+      few = rw (append-nil lines) few;
+      small = small;
+    };
+    run = subst (λ s. Chain does first commands answers s) (sym step.1) run;
+    lines = ap (λ (t : List ℕ). report_of answers ++ t) step.0 ∙ append-nil (report_of answers);
   };
-  run = subst (λ s. Chain does first commands answers s) (sym step.1) run;
-  lines = ap (λ (t : List ℕ). report_of answers ++ t) step.0 ∙ append-nil (report_of answers);
+  text_is = is_empty step.0;
 }
 report_with does first script lines commands answers v (byte ∷ bytes) text state split within spelled run short below few small step =
     let more = grown does first lines commands answers v (byte ∷ bytes) text state spelled run step in
     record {
-      commands = more.commands;
-      answers = more.answers;
-      script_is = record {
-        lines = lines;
-        piece = byte ∷ bytes;
-        split = split;
-        spelled = more.spelled;
-        short = all_append IsWithinLineLimit lines ((byte ∷ bytes) ∷ []) within (short, tt);
-        few = simp length-append (let fewer = below (omega arith) in omega (arith, fewer));
-        small = small;
+      is = record {
+        commands = more.commands;
+        answers = more.answers;
+        script_is = record {
+          lines = lines;
+          piece = byte ∷ bytes;
+          split = split;
+          spelled = more.spelled;
+          short = all_append IsWithinLineLimit lines ((byte ∷ bytes) ∷ []) within (short, tt);
+          few = simp length-append (let fewer = below (omega arith) in omega (arith, fewer));
+          small = small;
+        };
+        run = more.run;
+        lines = sym more.report_is;
       };
-      run = more.run;
-      lines = sym more.report_is;
+      text_is = more.text_is;
     }
 
 -- how many bytes were read
@@ -201,7 +225,7 @@ read_size does first read before session v was so_far =
 pub report_of_line : {M : Type 0} (does : Answers M) (first : M) (read : List ℕ) (before : Option (List ℕ)) (session : Session) (v : M) (was : Option (List ℕ)) (tail line text : List ℕ) (state : M)
     → (so_far : Reached does first read before session v was)
     → line ≡ session.partial.items ++ tail → HasNoLineFeed tail → length line ≤ 1048576 → (0 < length line → session.lines < 100000) → session.passed + length line ≤ 67108864
-    → LineStep does v line text state → IsReportOf does first (read ++ tail) (report_of so_far.answers ++ text) state
+    → LineStep does v line text state → EndsWithLine does first (read ++ tail) (report_of so_far.answers) text state
 report_of_line does first read before session v was tail line text state so_far line_is no_feed short below small step =
     let few = session.few in
     let split : IsSplit (read ++ tail) so_far.lines line = subst (λ (l : List ℕ). IsSplit (read ++ tail) so_far.lines l) (sym line_is) (split_held read so_far.lines session.partial.items tail so_far.split no_feed) in
@@ -224,7 +248,7 @@ finished does breaks first script before session v w was now line line_is answer
       last = w;
       is = subst (λ (s : List ℕ). IsReportOf does first s (report_of so_far.answers ++ answered.text) w) (append-nil script)
           (report_of_line does first script before session v was [] line answered.text w so_far (line_is ∙ sym (append-nil session.partial.items)) tt (omega (arith, size, held, short))
-          (λ some. open_ (omega (arith, size, held, some))) (omega (arith, size, held, small)) answered.step);
+          (λ some. open_ (omega (arith, size, held, some))) (omega (arith, size, held, small)) answered.step).is;
       at_end = refl;
       added = adds_joined before was now (report_of so_far.answers) answered.text so_far.added answered.added;
     }
@@ -247,21 +271,17 @@ reached_at_start does first session written empty = record {
 
 -- nothing of the line under way is added: the lines before it have their report
 pub prefix_so_far : {M : Type 0} (span : Span M) (read rest : List ℕ) (before : Option (List ℕ)) (session : Session) (v : M) (was now : Option (List ℕ))
-    → Reached span.answers span.first read before session v was → now ≡ was → EndsAfter span v (session.partial.items ++ rest) → AddsReportPrefix (IsPrefixReport span (read ++ rest)) before now
+    → Reached span.answers span.first read before session v was → now ≡ was → EndsAfter span v (session.partial.items ++ rest) [] → IsCutReport span (read ++ rest) before now
 prefix_so_far span read rest before session v was now so_far same ends =
     let few = session.few in
     let small = session.small in
     record {
-      report = report_of so_far.answers;
-      is = record {
-        prefix = flat_map ended so_far.lines;
-        rest = session.partial.items ++ rest;
-        last = v;
-        script_is = ap (λ (t : List ℕ). t ++ rest) so_far.split.whole ∙ append_assoc (flat_map ended so_far.lines) session.partial.items rest;
-        is = report_of_lines span.answers span.first v so_far.lines so_far.commands so_far.answers so_far.split.each so_far.short (omega (arith, few, so_far.counted)) (omega (arith, small, so_far.measured)) so_far.spelled so_far.run;
-        ends = ends;
-      };
-      added = subst (λ (w : Option (List ℕ)). AddsPrefix before (report_of so_far.answers) w) (sym same) (whole_prefix before was (report_of so_far.answers) so_far.added);
+      shown = report_of so_far.answers;
+      tail = [];
+      is = prefix_of_lines span (read ++ rest) so_far.lines (session.partial.items ++ rest) so_far.commands so_far.answers v
+          (ap (λ (t : List ℕ). t ++ rest) so_far.split.whole ∙ append_assoc (flat_map ended so_far.lines) session.partial.items rest)
+          so_far.split.each so_far.short (omega (arith, few, so_far.counted)) (omega (arith, small, so_far.measured)) so_far.spelled so_far.run ends;
+      added = record { mid = now; added = subst (λ (w : Option (List ℕ)). Adds before (report_of so_far.answers) w) (sym same) so_far.added; cut = no_prefix now [] };
     }
 
 -- ---- bytes in a row

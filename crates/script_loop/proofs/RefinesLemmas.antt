@@ -3,9 +3,8 @@ use Rattle.std.proofs.Common.{inl, inr, ⊎_elim, ℕ, List, [], ◌∷◌, refl
 use Rattle.script_lines.specs.declared.command.Command.{Command}
 use Rattle.script_lines.specs.declared.answer.Answer.{Answer}
 use Rattle.script_loop.specs.Chain.{Answers, Breaks, Chain, Span, Refines, IsRun, between, unbroken}
-use Rattle.script_loop.specs.Ends.{EndsReport, IsSurvived}
-use Rattle.script_loop.specs.Kinds.{IsFaultReport, IsReadReport, EndsAfter, at_answer, in_line, IsPrefixReport, IsAnyReport, is_prefix, is_to_fault, is_to_read}
-use Rattle.script_loop.specs.Report.{IsReportOf}
+use Rattle.script_loop.specs.Ends.{IsCutShort, in_report, in_script_fault, in_read_fault, EndsReport, IsSurvived}
+use Rattle.script_loop.specs.Kinds.{ReachesFault, IsReportAsRead, EndsAfter, at_answer, in_line, IsPrefixReport}
 use Rattle.script_loop.specs.declared.status.Status.{Status}
 use Rattle.script_loop.specs.declared.status.Status.TheVariants.{Done, WordFault, ScriptFault, ReadFault, WriteFault, NoMemory}
 
@@ -30,36 +29,26 @@ module _ {M N : Type 0} (IsSeen : M → N → Type 0) (inside : Span M) (seen : 
   chain_refines old known [] (answer ∷ answers) new is run = absurd run
   chain_refines old known (command ∷ commands) [] new is run = absurd run
 
-  report_refines : (script bytes : List ℕ) (last : M) → IsReportOf inside.answers inside.first script bytes last
-      → (next : N) × IsSeen last next × IsReportOf seen.answers seen.first script bytes next
-  report_refines script bytes last is =
-      let run = chain_refines inside.first seen.first is.commands is.answers last refines.begins is.run in
-      (run.0, run.1, record { commands = is.commands; answers = is.answers; script_is = is.script_is; run = run.2; lines = is.lines })
-
-  fault_refines : (script : List ℕ) (left : Option (List ℕ)) (report : List ℕ) → IsFaultReport inside script left report → IsFaultReport seen script left report
-  fault_refines script left report fault =
-      let is = fault.is in
+  fault_refines : (script : List ℕ) (left : Option (List ℕ)) (n : ℕ) (lines : List ℕ) → ReachesFault inside script left n lines → ReachesFault seen script left n lines
+  fault_refines script left n lines reaches =
+      let is = reaches.is in
       let run = chain_refines inside.first seen.first is.commands is.answers is.last refines.begins is.run in
       record {
-        n = fault.n;
-        lines = fault.lines;
         is = record { commands = is.commands; answers = is.answers; last = run.0; faulty = is.faulty; run = run.2; at_end = refines.left is.last run.0 run.1 is.at_end; report_is = is.report_is };
-        report_is = fault.report_is;
-        read = fault.read;
-        rest = fault.rest;
-        read_to = fault.read_to;
-        reaches = fault.reaches;
+        read = reaches.read;
+        rest = reaches.rest;
+        read_to = reaches.read_to;
+        reaches = reaches.reaches;
       }
 
-  read_refines : (script : List ℕ) (left : Option (List ℕ)) (report : List ℕ) → IsReadReport inside script left report → IsReadReport seen script left report
-  read_refines script left report read =
-      let is = read.is in
+  read_refines : (script : List ℕ) (left : Option (List ℕ)) (lines : List ℕ) → IsReportAsRead inside script left lines → IsReportAsRead seen script left lines
+  read_refines script left lines as_read =
+      let is = as_read.is in
       let run = chain_refines inside.first seen.first is.commands is.answers is.last refines.begins is.run in
       record {
-        lines = read.lines;
-        read = read.read;
-        rest = read.rest;
-        read_to = read.read_to;
+        read = as_read.read;
+        rest = as_read.rest;
+        read_to = as_read.read_to;
         is = record {
           lines = is.lines;
           piece = is.piece;
@@ -75,28 +64,37 @@ module _ {M N : Type 0} (IsSeen : M → N → Type 0) (inside : Span M) (seen : 
           at_end = refines.left is.last run.0 run.1 is.at_end;
           report_is = is.report_is;
         };
-        report_is = read.report_is;
       }
 
-  prefix_refines : (script report : List ℕ) → IsPrefixReport inside script report → IsPrefixReport seen script report
-  prefix_refines script report is =
-      let prefix = report_refines is.prefix report is.last is.is in
-      let ends : EndsAfter seen prefix.0 is.rest = elim is.ends [
-        | at_answer end ↦ at_answer (refines.left is.last prefix.0 prefix.1 end)
-        | in_line line following command new whole no_feed follows spelled broken end ↦
-            let next = refines.broken is.last new command prefix.0 prefix.1 broken end in
-            in_line line following command next.0 whole no_feed follows spelled next.2 next.1
+  prefix_refines : (script shown tail : List ℕ) → IsPrefixReport inside script shown tail → IsPrefixReport seen script shown tail
+  prefix_refines script shown tail prefix =
+      let is = prefix.is in
+      let run = chain_refines inside.first seen.first is.commands is.answers prefix.last refines.begins is.run in
+      let ends : EndsAfter seen run.0 prefix.rest tail = elim prefix.ends [
+        | at_answer end ↦ at_answer (refines.left prefix.last run.0 run.1 end)
+        | in_line line following command new whole no_feed follows spelled broken end none ↦
+            let next = refines.broken prefix.last new command run.0 run.1 broken end in
+            in_line line following command next.0 whole no_feed follows spelled next.2 next.1 none
       ] in
-      record { prefix = is.prefix; rest = is.rest; last = prefix.0; script_is = is.script_is; is = prefix.2; ends = ends }
+      record {
+        prefix = prefix.prefix;
+        rest = prefix.rest;
+        last = run.0;
+        script_is = prefix.script_is;
+        is = record { commands = is.commands; answers = is.answers; script_is = is.script_is; run = run.2; lines = is.lines };
+        at_line = prefix.at_line;
+        tail_is = prefix.tail_is;
+        ends = ends;
+      }
 
-  pub any_refines : (script : List ℕ) (left : Option (List ℕ)) (report : List ℕ) → IsAnyReport inside script left report → IsAnyReport seen script left report
-  any_refines script left report (is_prefix prefix) = is_prefix (prefix_refines script report prefix)
-  any_refines script left report (is_to_fault fault) = is_to_fault (fault_refines script left report fault)
-  any_refines script left report (is_to_read read) = is_to_read (read_refines script left report read)
+  cut_refines : (script : List ℕ) (failed : Type 0) (old left new : Option (List ℕ)) → IsCutShort inside script failed old left new → IsCutShort seen script failed old left new
+  cut_refines script failed old left new (in_report is) = in_report (record { shown = is.shown; tail = is.tail; is = prefix_refines script is.shown is.tail is.is; added = is.added })
+  cut_refines script failed old left new (in_script_fault n lines reaches added) = in_script_fault n lines (fault_refines script left n lines reaches) added
+  cut_refines script failed old left new (in_read_fault lines as_read why added) = in_read_fault lines (read_refines script left lines as_read) why added
 
   -- what was answered survives
   pub survived_refines : (script : List ℕ) (old new : Option (List ℕ)) → IsSurvived inside script old new → IsSurvived seen script old new
-  survived_refines script old new is = record { report = is.report; is = prefix_refines script is.report is.is; tail = is.tail; tail_is = is.tail_is; added = is.added }
+  survived_refines script old new is = record { shown = is.shown; tail = is.tail; is = prefix_refines script is.shown is.tail is.is; added = is.added }
 
   -- whatever the streams tell
   pub run_refines : IsRun inside → IsRun seen
@@ -119,16 +117,29 @@ module _ {M N : Type 0} (IsSeen : M → N → Type 0) (inside : Span M) (seen : 
 
 -- what is added, however the run ends
 pub ends_refines : {M N : Type 0} (IsSeen : M → N → Type 0) (inside : Span M) (seen : Span N) → Refines IsSeen inside seen
-    → (script : List ℕ) (old : Option (List ℕ)) (status : Status) (left new : Option (List ℕ)) → EndsReport inside script old status left new → EndsReport seen script old status left new
-ends_refines IsSeen inside seen refines script old Done left new ends =
-    let report = report_refines IsSeen inside seen refines script ends.report ends.is.last ends.is.is in
-    record { report = ends.report; is = record { last = report.0; is = report.2; at_end = refines.left ends.is.last report.0 report.1 ends.is.at_end; left_is = ends.is.left_is }; added = ends.added }
-ends_refines IsSeen inside seen refines script old WordFault left new ends = tt
-ends_refines IsSeen inside seen refines script old ScriptFault left new ends = record { report = ends.report; is = fault_refines IsSeen inside seen refines script left ends.report ends.is; added = ends.added }
-ends_refines IsSeen inside seen refines script old ReadFault left new ends = record { report = ends.report; is = read_refines IsSeen inside seen refines script left ends.report ends.is; added = ends.added }
-ends_refines IsSeen inside seen refines script old WriteFault left new ends =
-    record { report = ends.report; is = any_refines IsSeen (unbroken inside) (unbroken seen) (unbroken_refines IsSeen inside seen refines) script left ends.report ends.is; added = ends.added }
-ends_refines IsSeen inside seen refines script old NoMemory left new ends = record { report = ends.report; is = any_refines IsSeen inside seen refines script left ends.report ends.is; added = ends.added }
+    → (script : List ℕ) (failed : Type 0) (old : Option (List ℕ)) (status : Status) (left new : Option (List ℕ)) → EndsReport inside script failed old status left new → EndsReport seen script failed old status left new
+ends_refines IsSeen inside seen refines script failed old Done left new ends =
+    let is = ends.is.is in
+    let run = chain_refines IsSeen inside seen refines inside.first seen.first is.commands is.answers ends.is.last refines.begins is.run in
+    record {
+      report = ends.report;
+      is = record {
+        last = run.0;
+        is = record { commands = is.commands; answers = is.answers; script_is = is.script_is; run = run.2; lines = is.lines };
+        at_end = refines.left ends.is.last run.0 run.1 ends.is.at_end;
+        left_is = ends.is.left_is;
+      };
+      added = ends.added;
+    }
+ends_refines IsSeen inside seen refines script failed old WordFault left new ends = tt
+ends_refines IsSeen inside seen refines script failed old ScriptFault left new ends =
+    let is = ends.is in
+    record { report = ends.report; is = record { n = is.n; lines = is.lines; is = fault_refines IsSeen inside seen refines script left is.n is.lines is.is; report_is = is.report_is }; added = ends.added }
+ends_refines IsSeen inside seen refines script failed old ReadFault left new ends =
+    let is = ends.is in
+    record { report = ends.report; is = record { lines = is.lines; is = read_refines IsSeen inside seen refines script left is.lines is.is; report_is = is.report_is }; added = ends.added }
+ends_refines IsSeen inside seen refines script failed old WriteFault left new ends = cut_refines IsSeen (unbroken inside) (unbroken seen) (unbroken_refines IsSeen inside seen refines) script failed old left new ends
+ends_refines IsSeen inside seen refines script failed old NoMemory left new ends = cut_refines IsSeen inside seen refines script failed old left new ends
 
 -- what each answer keeps, and each command that is broken off, the whole span keeps
 module _ {M : Type 0} (Keeps : M → M → Type 0) (none : (state : M) → Keeps state state) (then_ : (old mid new : M) → Keeps old mid → Keeps mid new → Keeps old new) (does : Answers M) (breaks : Breaks M)

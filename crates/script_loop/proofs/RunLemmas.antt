@@ -4,16 +4,16 @@ use Rattle.std.specs.Option.{ForSome}
 use Rattle.std.proofs.lemmas.List.{append-nil, take-append-drop}
 use Rattle.byte_streams.specs.declared.fault.SourceRefusal.{SourceRefusal}
 use Rattle.byte_streams.specs.declared.fault.SourceRefusal.TheVariants as sources
-use Rattle.byte_streams.proofs.StreamsLemmas.{adds_joined, prefix_joined}
+use Rattle.byte_streams.proofs.StreamsLemmas.{adds_joined}
 use Rattle.script_lines.specs.declared.command.Command.{Command}
 use Rattle.report_lines.specs.Line.{fault_line}
 use Rattle.report_lines.specs.declared.fault.Fault.TheVariants.{Script, Read}
 use Rattle.script_loop.specs.Chain.{Answers, Breaks, Span, between, unbroken, IsRun}
-use Rattle.script_loop.specs.Ends.{ReportsFault, IsCutShort, EndsReport}
+use Rattle.script_loop.specs.Ends.{ReportsFault, IsCutShort, in_report, in_script_fault, in_read_fault, EndsReport}
 use Rattle.script_loop.specs.Halts.{halt_of_source, StopsAt, HaltsWith, HaltsRun}
-use Rattle.script_loop.specs.Kinds.{IsReadTo, IsFaultReport, at_answer, in_line, IsPrefixReport, IsReportSoFar, IsReadReport, is_prefix, is_to_fault, is_to_read}
+use Rattle.script_loop.specs.Kinds.{IsReadTo, ReachesFault, at_answer, in_line, IsPrefixReport, IsCutReport, IsReportSoFar, IsReportAsRead}
 use Rattle.script_loop.specs.Progress.{Reached, Advances, HaltsIn, Underway, IsAllRead, IsDone, IsHalted}
-use Rattle.script_loop.specs.Report.{report_of, IsReportOf, AddsReportPrefix}
+use Rattle.script_loop.specs.Report.{report_of, IsReportOf}
 use Rattle.script_loop.specs.Script.{IsScriptOf}
 use Rattle.script_loop.specs.declared.reason.ScriptReason.{ScriptReason}
 use Rattle.script_loop.specs.declared.session.Session.{Session}
@@ -22,7 +22,7 @@ use Rattle.script_loop.specs.declared.session.Halt.TheVariants.{Faulty, ReadFaul
 use Rattle.script_loop.specs.declared.status.Status.{Status}
 use Rattle.script_loop.specs.declared.status.Status.TheVariants as Statuses
 use Rattle.script_loop.specs.declared.status.Status.TheVariants.{Done, WordFault, ScriptFault}
-use Rattle.script_loop.proofs.EndsLemmas.{prefix_at_start}
+use Rattle.script_loop.proofs.EndsLemmas.{cut_at_start}
 use Rattle.script_loop.proofs.FaultsLemmas.{no_first_fault}
 use Rattle.script_loop.proofs.ProgressLemmas.{prefix_so_far, reached_at_start, read_size}
 
@@ -160,15 +160,15 @@ start_halts does breaks first was before = record {
   read = [];
   rest = rest_of was;
   gave = λ script is. rest_told script [] was (script, record { left_is = is; script_is = refl });
-  halts = prefix_at_start (between does breaks first first) (rest_of was) before refl;
+  halts = cut_at_start (between does breaks first first) (rest_of was) before refl;
 }
 
 -- ---- what was answered, whatever the streams tell
 
-run_of_prefix : {M : Type 0} (span : Span M) (script report : List ℕ) → IsPrefixReport span script report → IsRun span
-run_of_prefix span script report prefix = elim prefix.ends [
+run_of_prefix : {M : Type 0} (span : Span M) (script shown tail : List ℕ) → IsPrefixReport span script shown tail → IsRun span
+run_of_prefix span script shown tail prefix = elim prefix.ends [
   | at_answer end ↦ record { commands = prefix.is.commands; answers = prefix.is.answers; last = prefix.last; run = prefix.is.run; new = prefix.last; gone = inl refl; at_end = end }
-  | in_line line following command new is no_feed follows spelled broken end ↦ record { commands = prefix.is.commands; answers = prefix.is.answers; last = prefix.last; run = prefix.is.run; new = new; gone = inr (command, broken); at_end = end }
+  | in_line line following command new is no_feed follows spelled broken end none ↦ record { commands = prefix.is.commands; answers = prefix.is.answers; last = prefix.last; run = prefix.is.run; new = new; gone = inr (command, broken); at_end = end }
 ]
 
 -- a span in which no command is broken off
@@ -194,11 +194,11 @@ run_halted span was before (Faulty n reason) left now halted other =
 run_halted span was before ReadFault left now halted other =
     let is = halted.halts.is in
     record { commands = is.commands; answers = is.answers; last = is.last; run = is.run; new = is.last; gone = inl refl; at_end = is.at_end }
-run_halted span was before WriteFault left now halted other = run_of_prefix (unbroken span) (halted.read ++ halted.rest) halted.halts.report halted.halts.is
+run_halted span was before WriteFault left now halted other = run_of_prefix (unbroken span) (halted.read ++ halted.rest) halted.halts.shown halted.halts.tail halted.halts.is
 run_halted span was before NoMemory left now halted other = absurd (other refl)
 
 pub run_out_of_memory : {M : Type 0} (span : Span M) (was before left now : Option (List ℕ)) → IsHalted span was before NoMemory left now → IsRun span
-run_out_of_memory span was before left now halted = run_of_prefix span (halted.read ++ halted.rest) halted.halts.report halted.halts.is
+run_out_of_memory span was before left now halted = run_of_prefix span (halted.read ++ halted.rest) halted.halts.shown halted.halts.tail halted.halts.is
 
 -- ---- how the run ends
 
@@ -206,25 +206,21 @@ run_out_of_memory span was before left now halted = run_of_prefix span (halted.r
 abbrev with_breaks : {M : Type 0} → Span M → Breaks M → Span M
 with_breaks span breaks = record { answers = span.answers; breaks = breaks; first = span.first; ends = span.ends }
 
-fault_report : {M : Type 0} (span : Span M) (breaks : Breaks M) (script read rest : List ℕ) (before left now : Option (List ℕ)) (n : ℕ)
-    → IsReadTo script read rest left → (stop : StopsAt span (read ++ rest) read before n now) → IsFaultReport (with_breaks span breaks) script left (stop.lines ++ fault_line (Script n))
-fault_report span breaks script read rest before left now n read_to stop =
-    subst (λ (s : List ℕ). IsFaultReport (with_breaks span breaks) s left (stop.lines ++ fault_line (Script n))) (sym read_to.script_is)
+reaches_fault : {M : Type 0} (span : Span M) (breaks : Breaks M) (script read rest : List ℕ) (before left now : Option (List ℕ)) (n : ℕ)
+    → IsReadTo script read rest left → (stop : StopsAt span (read ++ rest) read before n now) → ReachesFault (with_breaks span breaks) script left n stop.lines
+reaches_fault span breaks script read rest before left now n read_to stop =
+    subst (λ (s : List ℕ). ReachesFault (with_breaks span breaks) s left n stop.lines) (sym read_to.script_is)
     (record {
-      n = n;
-      lines = stop.lines;
       is = record { commands = stop.is.commands; answers = stop.is.answers; last = stop.is.last; faulty = stop.is.faulty; run = stop.is.run; at_end = stop.is.at_end; report_is = stop.is.report_is };
-      report_is = refl;
       read = read;
       rest = rest;
       read_to = record { left_is = read_to.left_is; script_is = refl };
       reaches = stop.reaches;
     })
 
-read_report : {M : Type 0} (span : Span M) (breaks : Breaks M) (script read rest lines : List ℕ) (left : Option (List ℕ)) → IsReadTo script read rest left → IsReportSoFar span read lines
-    → IsReadReport (with_breaks span breaks) script left (lines ++ fault_line Read)
-read_report span breaks script read rest lines left read_to is = record {
-  lines = lines;
+as_read : {M : Type 0} (span : Span M) (breaks : Breaks M) (script read rest lines : List ℕ) (left : Option (List ℕ)) → IsReadTo script read rest left → IsReportSoFar span read lines
+    → IsReportAsRead (with_breaks span breaks) script left lines
+as_read span breaks script read rest lines left read_to is = record {
   read = read;
   rest = rest;
   read_to = read_to;
@@ -243,11 +239,10 @@ read_report span breaks script read rest lines left read_to is = record {
     at_end = is.at_end;
     report_is = is.report_is;
   };
-  report_is = refl;
 }
 
-pub ends_done : {M : Type 0} (span : Span M) (script : List ℕ) (was before left now : Option (List ℕ)) → IsDone span was before left now → was ≡ Some script → EndsReport span script before Done left now
-ends_done span script was before left now done is =
+pub ends_done : {M : Type 0} (span : Span M) (script : List ℕ) (failed : Type 0) (was before left now : Option (List ℕ)) → IsDone span was before left now → was ≡ Some script → EndsReport span script failed before Done left now
+ends_done span script failed was before left now done is =
     let gave = done.gave script is in
     record {
       report = done.finished.report;
@@ -260,63 +255,51 @@ ends_done span script was before left now done is =
       added = done.finished.added;
     }
 
-pub ends_at_fault : {M : Type 0} (span : Span M) (script : List ℕ) (was before left mid now : Option (List ℕ)) (n : ℕ) (reason : ScriptReason) (status : Status)
-    → IsHalted span was before (Faulty n reason) left mid → ReportsFault (Script n) mid status now → was ≡ Some script → EndsReport span script before status left now
-ends_at_fault span script was before left mid now n reason Done halted none is = absurd none
-ends_at_fault span script was before left mid now n reason WordFault halted written is = tt
-ends_at_fault span script was before left mid now n reason ScriptFault halted written is = record {
+pub ends_at_fault : {M : Type 0} (span : Span M) (script : List ℕ) (failed : Type 0) (was before left mid now : Option (List ℕ)) (n : ℕ) (reason : ScriptReason) (status : Status)
+    → IsHalted span was before (Faulty n reason) left mid → ReportsFault (Script n) mid status now → was ≡ Some script → EndsReport span script failed before status left now
+ends_at_fault span script failed was before left mid now n reason Done halted none is = absurd none
+ends_at_fault span script failed was before left mid now n reason WordFault halted written is = tt
+ends_at_fault span script failed was before left mid now n reason ScriptFault halted written is = record {
   report = halted.halts.lines ++ fault_line (Script n);
-  is = fault_report span span.breaks script halted.read halted.rest before left mid n (halted.gave script is) halted.halts;
+  is = record { n = n; lines = halted.halts.lines; is = reaches_fault span span.breaks script halted.read halted.rest before left mid n (halted.gave script is) halted.halts; report_is = refl };
   added = adds_joined before mid now halted.halts.lines (fault_line (Script n)) halted.halts.added written.1;
 }
-ends_at_fault span script was before left mid now n reason Statuses.ReadFault halted written is = let other = written.0 in cc
-ends_at_fault span script was before left mid now n reason Statuses.WriteFault halted part is = record {
-  report = halted.halts.lines ++ fault_line (Script n);
-  is = is_to_fault (fault_report span (λ old command new. ⊥) script halted.read halted.rest before left mid n (halted.gave script is) halted.halts);
-  added = prefix_joined before mid now halted.halts.lines (fault_line (Script n)) halted.halts.added part.part;
-}
-ends_at_fault span script was before left mid now n reason Statuses.NoMemory halted part is = record {
-  report = halted.halts.lines ++ fault_line (Script n);
-  is = is_to_fault (fault_report span span.breaks script halted.read halted.rest before left mid n (halted.gave script is) halted.halts);
-  added = prefix_joined before mid now halted.halts.lines (fault_line (Script n)) halted.halts.added part.part;
-}
+ends_at_fault span script failed was before left mid now n reason Statuses.ReadFault halted written is = let other = written.0 in cc
+ends_at_fault span script failed was before left mid now n reason Statuses.WriteFault halted part is =
+    in_script_fault n halted.halts.lines (reaches_fault span (λ old command new. ⊥) script halted.read halted.rest before left mid n (halted.gave script is) halted.halts)
+    (record { mid = mid; added = halted.halts.added; cut = part })
+ends_at_fault span script failed was before left mid now n reason Statuses.NoMemory halted part is =
+    in_script_fault n halted.halts.lines (reaches_fault span span.breaks script halted.read halted.rest before left mid n (halted.gave script is) halted.halts)
+    (record { mid = mid; added = halted.halts.added; cut = part })
 
-pub ends_at_read : {M : Type 0} (span : Span M) (script : List ℕ) (was before left mid now : Option (List ℕ)) (status : Status)
-    → IsHalted span was before ReadFault left mid → ReportsFault Read mid status now → was ≡ Some script → EndsReport span script before status left now
-ends_at_read span script was before left mid now Done halted none is = absurd none
-ends_at_read span script was before left mid now WordFault halted written is = tt
-ends_at_read span script was before left mid now ScriptFault halted written is = let other = written.0 in cc
-ends_at_read span script was before left mid now Statuses.ReadFault halted written is = record {
+pub ends_at_read : {M : Type 0} (span : Span M) (script : List ℕ) (failed : Type 0) (was before left mid now : Option (List ℕ)) (status : Status)
+    → IsHalted span was before ReadFault left mid → failed → ReportsFault Read mid status now → was ≡ Some script → EndsReport span script failed before status left now
+ends_at_read span script failed was before left mid now Done halted why none is = absurd none
+ends_at_read span script failed was before left mid now WordFault halted why written is = tt
+ends_at_read span script failed was before left mid now ScriptFault halted why written is = let other = written.0 in cc
+ends_at_read span script failed was before left mid now Statuses.ReadFault halted why written is = record {
   report = halted.halts.report ++ fault_line Read;
-  is = read_report span span.breaks script halted.read halted.rest halted.halts.report left (halted.gave script is) halted.halts.is;
+  is = record { lines = halted.halts.report; is = as_read span span.breaks script halted.read halted.rest halted.halts.report left (halted.gave script is) halted.halts.is; report_is = refl };
   added = adds_joined before mid now halted.halts.report (fault_line Read) halted.halts.added written.1;
 }
-ends_at_read span script was before left mid now Statuses.WriteFault halted part is = record {
-  report = halted.halts.report ++ fault_line Read;
-  is = is_to_read (read_report span (λ old command new. ⊥) script halted.read halted.rest halted.halts.report left (halted.gave script is) halted.halts.is);
-  added = prefix_joined before mid now halted.halts.report (fault_line Read) halted.halts.added part.part;
-}
-ends_at_read span script was before left mid now Statuses.NoMemory halted part is = record {
-  report = halted.halts.report ++ fault_line Read;
-  is = is_to_read (read_report span span.breaks script halted.read halted.rest halted.halts.report left (halted.gave script is) halted.halts.is);
-  added = prefix_joined before mid now halted.halts.report (fault_line Read) halted.halts.added part.part;
-}
+ends_at_read span script failed was before left mid now Statuses.WriteFault halted why part is =
+    in_read_fault halted.halts.report (as_read span (λ old command new. ⊥) script halted.read halted.rest halted.halts.report left (halted.gave script is) halted.halts.is) why
+    (record { mid = mid; added = halted.halts.added; cut = part })
+ends_at_read span script failed was before left mid now Statuses.NoMemory halted why part is =
+    in_read_fault halted.halts.report (as_read span span.breaks script halted.read halted.rest halted.halts.report left (halted.gave script is) halted.halts.is) why
+    (record { mid = mid; added = halted.halts.added; cut = part })
 
--- a prefix is written, and no fault's line
-pub ends_cut : {M : Type 0} (span : Span M) (script read rest : List ℕ) (before left now : Option (List ℕ)) → IsReadTo script read rest left
-    → AddsReportPrefix (IsPrefixReport span (read ++ rest)) before now → IsCutShort span script before left now
-ends_cut span script read rest before left now read_to is_cut = record {
-  report = is_cut.report;
-  is = is_prefix (subst (λ (s : List ℕ). IsPrefixReport span s is_cut.report) (sym read_to.script_is) is_cut.is);
-  added = is_cut.added;
-}
+-- the report is cut short, and no fault's line is begun
+pub ends_cut : {M : Type 0} (span : Span M) (script read rest : List ℕ) (failed : Type 0) (before left now : Option (List ℕ)) → IsReadTo script read rest left
+    → IsCutReport span (read ++ rest) before now → IsCutShort span script failed before left now
+ends_cut span script read rest failed before left now read_to is_cut = in_report (subst (λ (s : List ℕ). IsCutReport span s before now) (sym read_to.script_is) is_cut)
 
 -- a good script has no first faulty line
-pub no_fault : {M : Type 0} (span : Span M) (script : List ℕ) (commands : List Command) (before left now : Option (List ℕ)) (status : Status)
-    → EndsReport span script before status left now → IsScriptOf script commands → status ≢ ScriptFault
-no_fault span script commands before left now Done ends good is = cc
-no_fault span script commands before left now WordFault ends good is = cc
-no_fault span script commands before left now ScriptFault ends good is = no_first_fault script commands ends.is.n ends.is.is.commands good ends.is.is.faulty
-no_fault span script commands before left now Statuses.ReadFault ends good is = cc
-no_fault span script commands before left now Statuses.WriteFault ends good is = cc
-no_fault span script commands before left now Statuses.NoMemory ends good is = cc
+pub no_fault : {M : Type 0} (span : Span M) (script : List ℕ) (commands : List Command) (failed : Type 0) (before left now : Option (List ℕ)) (status : Status)
+    → EndsReport span script failed before status left now → IsScriptOf script commands → status ≢ ScriptFault
+no_fault span script commands failed before left now Done ends good is = cc
+no_fault span script commands failed before left now WordFault ends good is = cc
+no_fault span script commands failed before left now ScriptFault ends good is = no_first_fault script commands ends.is.n ends.is.is.is.commands good ends.is.is.is.faulty
+no_fault span script commands failed before left now Statuses.ReadFault ends good is = cc
+no_fault span script commands failed before left now Statuses.WriteFault ends good is = cc
+no_fault span script commands failed before left now Statuses.NoMemory ends good is = cc

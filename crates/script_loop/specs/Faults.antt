@@ -10,7 +10,7 @@ abbrev pub FollowsLine : List ℕ → Type 0
 FollowsLine [] = Unit {0}
 FollowsLine (byte ∷ bytes) = byte ≡ line_feed
 
--- how many bytes the line feed of a line has, which is followed by this
+-- 1 where a line feed ends the line that is followed by this, 0 where the script's end does
 abbrev pub feed_bytes : List ℕ → ℕ
 feed_bytes [] = 0
 feed_bytes (byte ∷ bytes) = 1

@@ -6,8 +6,8 @@ use Rattle.byte_streams.specs.declared.fault.SourceRefusal.TheVariants as source
 use Rattle.byte_streams.specs.declared.fault.SinkRefusal.{SinkRefusal}
 use Rattle.byte_streams.specs.declared.fault.SinkRefusal.TheVariants as sinks
 use Rattle.script_loop.specs.Chain.{Span, unbroken}
-use Rattle.script_loop.specs.Kinds.{IsReportToFault, IsReportSoFar, IsPrefixReport}
-use Rattle.script_loop.specs.Report.{AddsReport, AddsReportPrefix}
+use Rattle.script_loop.specs.Kinds.{IsReportToFault, IsReportSoFar, IsCutReport}
+use Rattle.script_loop.specs.Report.{AddsReport}
 use Rattle.script_loop.specs.Script.{ended}
 use Rattle.script_loop.specs.declared.session.Halt.{Halt}
 use Rattle.script_loop.specs.declared.session.Halt.TheVariants.{Faulty, ReadFault, WriteFault, NoMemory}
@@ -31,8 +31,8 @@ pub record StopsAt {M : Type 0} (span : Span M) (script read : List ℕ) (old : 
 abbrev pub HaltsWith : {M : Type 0} → Span M → List ℕ → List ℕ → Option (List ℕ) → Halt → Option (List ℕ) → Type 0
 HaltsWith span read rest old (Faulty n reason) new = StopsAt span (read ++ rest) read old n new
 HaltsWith span read rest old ReadFault new = ⊥
-HaltsWith span read rest old WriteFault new = AddsReportPrefix (IsPrefixReport (unbroken span) (read ++ rest)) old new
-HaltsWith span read rest old NoMemory new = AddsReportPrefix (IsPrefixReport span (read ++ rest)) old new
+HaltsWith span read rest old WriteFault new = IsCutReport (unbroken span) (read ++ rest) old new
+HaltsWith span read rest old NoMemory new = IsCutReport span (read ++ rest) old new
 
 -- the same of any run
 abbrev pub HaltsRun : {M : Type 0} → Span M → List ℕ → List ℕ → Option (List ℕ) → Halt → Option (List ℕ) → Type 0

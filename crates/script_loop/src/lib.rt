@@ -3,7 +3,8 @@
 //! Seen as: a run, which is a chain of answers of the machine (`IsRun`, `Chain`, specs/Chain.antt); its report has a line for
 //!   each (`IsReportOf`, specs/Report.antt).
 //! Keeps: what each status says of the sink and of the source (`EndsReport`, specs/Ends.antt). However a run ends, it has
-//!   added a prefix of the report of a prefix of the script, perhaps with a fault's line after it (`IsSurvived`).
+//!   added the report of a prefix of the script, all of it but perhaps a part of the last answer's line; or all of it and a
+//!   prefix of a fault's line (`IsSurvived`).
 //! Hides: that a script is read in pieces of 64 KiB, the buffer of a line that runs over a piece's end, that each line is
 //!   written at once.
 //! Not here: what a command does, and on what; what a line says (script_lines), how an answer is printed (report_lines).

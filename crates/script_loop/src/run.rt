@@ -41,7 +41,7 @@ pub fn report_script<S: Source, K: Sink, M: Machine>(
     requires { M.is_ready machine.old }
 
     // What was written and how far the source was read, by the way that the run ends.
-    ensures ends { (script : List ℕ) → S.left source.old ≡ Some script → EndsReport (between M.answers M.breaks machine.old machine.new) script (K.written sink.old) result.status (S.left source.new) (K.written sink.new) }
+    ensures ends { (script : List ℕ) → S.left source.old ≡ Some script → EndsReport (between M.answers M.breaks machine.old machine.new) script (Rose (S.faults source.old) (S.faults source.new)) (K.written sink.old) result.status (S.left source.new) (K.written sink.new) }
 
     // Whatever the source tells, some commands were answered. One was broken off only where memory ran out.
     ensures runs { IsRun (between M.answers M.breaks machine.old machine.new) }

@@ -3,7 +3,7 @@ ghost use Rattle.std.specs.Prelude.{◌≡◌, ℕ, ◌+◌, ◌<◌, ◌≤◌,
 ghost use Rattle.std.specs.Result.{IfErr};
 ghost use Rattle.std.specs.declared.option.Option.{Option};
 ghost use Rattle.fault_count.specs.Rose.{Rose};
-ghost use Rattle.script_loop.specs.Script.{line_feed, ended, HasNoLineFeed};
+ghost use Rattle.script_loop.specs.Script.{line_feed, ended, HasNoLineFeed, most_line_bytes, most_lines, most_script_bytes};
 ghost use Rattle.script_loop.specs.Faults.{IsPastLimit};
 ghost use Rattle.script_loop.specs.Halts.{HaltsWith};
 ghost use Rattle.script_loop.specs.Progress.{Holds, HaltsHold, Reached, Advances, HaltsIn, IsFinished, taken_bytes};
@@ -49,7 +49,7 @@ fn split_line(bytes: &[u8]) -> Option<(&[u8], &[u8])>
 fn past_limit(session: &Session, length: u64, feed: u64) -> Option<ScriptReason>
     requires { feed ≤ 1 }
     ensures past { IsSome result → IsPastLimit session.now.lines session.now.passed length feed }
-    ensures within { IfNone result ((length ≤ 1048576) × (session.now.lines < 100000) × (session.now.passed + (length + feed) ≤ 67108864)) }
+    ensures within { IfNone result ((length ≤ most_line_bytes) × (session.now.lines < most_lines) × (session.now.passed + (length + feed) ≤ most_script_bytes)) }
 {
     if length > MOST_LINE_BYTES {
         return Some(ScriptReason::LongLine);

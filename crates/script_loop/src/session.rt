@@ -1,5 +1,6 @@
 //! How far a script has come, its limits, and what halts its run.
 ghost use Rattle.std.specs.Prelude.{◌+◌, ◌<◌, ◌≤◌, vec_len};
+ghost use Rattle.script_loop.specs.Script.{most_line_bytes, most_lines, most_script_bytes};
 
 use crate::reason::ScriptReason;
 
@@ -19,10 +20,10 @@ pub struct Session {
     pub lines: u32,
     /// How many bytes these have, their line feeds counted.
     pub passed: u64,
-    ghost short: { vec_len partial ≤ 1048576 },
-    ghost few: { lines ≤ 100000 },
-    ghost open: { 0 < vec_len partial → lines < 100000 },
-    ghost small: { passed + vec_len partial ≤ 67108864 },
+    ghost short: { vec_len partial ≤ most_line_bytes },
+    ghost few: { lines ≤ most_lines },
+    ghost open: { 0 < vec_len partial → lines < most_lines },
+    ghost small: { passed + vec_len partial ≤ most_script_bytes },
 }
 
 /// What ends a run before its script does.

@@ -1,4 +1,4 @@
-// The five calls on a file's first byte.
+// The calls that seal a file, and a sync.
 ghost use Rattle.std.specs.Prelude.{◌≡◌, ◌≢◌, ℕ, ◌≤◌, ◌<◌, ◌∷◌, [], length, drop, IfOk, OnOk, OnErr, IsTrue, ◌↔◌};
 ghost use Rattle.disk_trait.specs.View.{Image, View, Tells};
 ghost use Rattle.disk_trait.specs.Calls.{Moved, Same, Cause};

@@ -2,7 +2,6 @@ pub mod TextLemmas
 pub mod TextOnce
 pub mod StandsLemmas
 pub mod FaultLemmas
-pub mod FaultBounds
 pub mod IdentityLemmas
 pub mod ReadLemmas
 pub mod RecordLemmas

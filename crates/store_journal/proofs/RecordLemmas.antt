@@ -15,11 +15,12 @@ use Rattle.record_form.specs.GroupFault.{group_fault}
 use Rattle.record_form.proofs.HeaderLemmas.{spelled_on}
 use Rattle.record_form.proofs.GroupFound.{group_found}
 use Rattle.store_journal.specs.Text.{Records, end_of}
-use Rattle.store_journal.specs.Fault.{offset_of, offset_if_fault, shifted, ◌or_earlier◌, most_payload_bytes, payload_fault_offset, tail_fault_offset, record_fault_offset, IsRecordFault}
+use Rattle.record_form.specs.FaultOffset.{offset_of}
+use Rattle.store_journal.specs.Fault.{offset_if_fault, shifted, ◌or_earlier◌, most_payload_bytes, payload_fault_offset, tail_fault_offset, record_fault_offset, IsRecordFault}
 use Rattle.store_journal.specs.Loading.{IsFaultAt, IsRecordsFault, IsRecordAt, AreBefore}
 use Rattle.store_journal.specs.declared.fault.LoadFault.{LoadFault}
 use Rattle.store_journal.specs.declared.fault.LoadFault.TheVariants.{NotSealed, Damaged, Failed, NoMemory}
-use Rattle.store_journal.proofs.FaultBounds.{group_fault_within}
+use Rattle.record_form.proofs.FaultBounds.{group_fault_within}
 
 shifted_twice : (a b : ℕ) (offset : Option ℕ) → shifted a (shifted b offset) ≡ shifted (a + b) offset
 shifted_twice a b None = refl

@@ -3,6 +3,7 @@ use Rattle.std.specs.Prelude.{◌≡◌, ◌⊎◌, ℕ, ◌+◌, ◌==◌, nat_
 use Rattle.cache_key.specs.declared.request.Mutation.{Mutation}
 use Rattle.byte_fields.specs.Numbers.{number_in}
 use Rattle.record_form.specs.declared.fault.RecordFault.{RecordFault}
+use Rattle.record_form.specs.FaultOffset.{offset_of}
 use Rattle.record_form.specs.declared.fault.RecordFault.TheVariants.{Short, Tag, Range, Name, NoMemory}
 use Rattle.record_form.specs.HeaderText.{partition_offset, partitions_offset}
 use Rattle.record_form.specs.HeaderFault.{header_fault}
@@ -10,14 +11,6 @@ use Rattle.record_form.specs.GroupText.{closed_gate}
 use Rattle.record_form.specs.GroupFault.{group_fault}
 use Rattle.seal_gate.specs.Seal.{IsSealed}
 use Rattle.store_journal.specs.Text.{header_start, header_section, records_section, Records, end_of}
-
--- where a fault of a header or of a payload lies in it; a lack of memory is no fault of the bytes
-abbrev pub offset_of : RecordFault → ℕ
-offset_of (Short at) = at
-offset_of (Tag at) = at
-offset_of (Range at) = at
-offset_of (Name at) = at
-offset_of NoMemory = 0
 
 -- that offset, if there is a fault
 abbrev pub offset_if_fault : Option RecordFault → Option ℕ

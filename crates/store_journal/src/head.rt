@@ -4,7 +4,8 @@ ghost use Rattle.record_form.specs.HeaderText.{IsHeader, header_text};
 ghost use Rattle.record_form.specs.HeaderFault.{header_fault};
 ghost use Rattle.seal_gate.specs.Seal.{header_end};
 ghost use Rattle.store_journal.specs.Text.{header_start, header_section};
-ghost use Rattle.store_journal.specs.Fault.{offset_of, offset_if_fault, shifted, ◌or_earlier◌, other_number, header_fault_offset};
+ghost use Rattle.record_form.specs.FaultOffset.{offset_of};
+ghost use Rattle.store_journal.specs.Fault.{offset_if_fault, shifted, ◌or_earlier◌, other_number, header_fault_offset};
 ghost use Rattle.store_journal.specs.Loading.{HasHeaderOf};
 
 use crate::layout::{FIRST_GATE, HEADER_START};
@@ -39,7 +40,7 @@ pub(crate) fn id_of(bytes: &[u8], partition: u16, partitions: u16) -> StoreId
 }
 
 /// The first offset at which the header is none.
-#[tactic(auto, using(crate::proofs::FaultBounds::header_fault_within))]
+#[tactic(auto, using(record_form::proofs::FaultBounds::header_fault_within))]
 fn header_offset(bytes: &[u8]) -> Option<u64>
     requires { header_end ≤ length bytes.now }
     ensures { result ≡ shifted header_start (offset_if_fault (header_fault (header_section bytes.now))) }

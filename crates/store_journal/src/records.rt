@@ -4,7 +4,8 @@ ghost use Rattle.byte_fields.specs.Numbers.{number_in};
 ghost use Rattle.record_form.specs.GroupText.{IsGroupText, closed_gate};
 ghost use Rattle.record_form.specs.GroupFault.{group_fault};
 ghost use Rattle.seal_gate.specs.Seal.{header_end};
-ghost use Rattle.store_journal.specs.Fault.{offset_of, offset_if_fault, shifted, most_payload_bytes, payload_fault_offset, tail_fault_offset, record_fault_offset};
+ghost use Rattle.record_form.specs.FaultOffset.{offset_of};
+ghost use Rattle.store_journal.specs.Fault.{offset_if_fault, shifted, most_payload_bytes, payload_fault_offset, tail_fault_offset, record_fault_offset};
 ghost use Rattle.store_journal.specs.Loading.{IsFaultAt, IsRecordsFault, IsRecordAt, AreBefore};
 
 use crate::fault::LoadFault;

@@ -1,12 +1,36 @@
 //! Mutations, stores and disks that several tests start from.
 use cache_key::{CacheName, Key, Mutation, Value};
 use disk_memory::{DiskPlan, MemoryDisk};
-use disk_trait::write_synced;
-use std::alloc::{AllocError, Global};
-use std::test::Fail;
+use disk_trait::{Disk, write_synced};
+use newest_store::{NewestFault, load_newest};
+use record_form::Header;
+use std::alloc::Global;
+use std::fmt::Debug;
+use std::process::Abort;
+use store_ident::StoreId;
+use store_journal::Loaded;
 
-// A store of version 1 of partition 0 on host 0, where there are two: a seal, the header, the record of the put
-// of 1 at key a of cache c, and a closed gate.
+// The first store of partition 0 on host 0.
+pub(crate) const ID: StoreId = StoreId {
+    partition: 0,
+    version: 1,
+    epoch: 1,
+    host: 0,
+};
+
+// Its header where there is one partition.
+pub(crate) const HEADER: Header = Header {
+    id: ID,
+    partitions: 1,
+};
+
+// A seal, that header, the record of the put of 1 at key a of cache c, and a closed gate.
+pub(crate) const WHOLE: &[u8] =
+    b"\x01PST1\x00\x01\x00\x00\x00\x00\x00\x00\x00\x00\x00\x01\x00\x00\x00\x00\x00\x00\x00\x01\
+\x00\x00\x00\x01\x00\x00\x00\x00\x00\x00\x00\x00\x00\x00\x00\x00\x01\x00\x00\x00\x0c\x01\x01\x01c\x00\x01a\
+\x00\x00\x00\x011\x00";
+
+// The same where there are two partitions.
 pub(crate) const FIRST: &[u8] =
     b"\x01PST1\x00\x01\x00\x00\x00\x00\x00\x00\x00\x00\x00\x01\x00\x00\x00\x00\x00\x00\x00\x01\
 \x00\x00\x00\x02\x00\x00\x00\x00\x00\x00\x00\x00\x00\x00\x00\x00\x01\x00\x00\x00\x0c\x01\x01\x01c\x00\x01a\
@@ -18,7 +42,10 @@ pub(crate) const SECOND: &[u8] =
 \x00\x00\x00\x02\x00\x00\x00\x00\x00\x00\x00\x00\x00\x00\x00\x00\x01\x00\x00\x00\x0c\x01\x01\x01c\x00\x01a\
 \x00\x00\x00\x012\x00";
 
-// Where a store's bytes have its magic, its partition, its version, its value and its closed gate, each the last byte.
+// Where a store's bytes have its seal, its magic, its partition, its version, its value and its closed gate, each the last
+// byte.
+pub(crate) const SEAL: usize = 0;
+
 pub(crate) const MAGIC: usize = 4;
 
 pub(crate) const PARTITION: usize = 8;
@@ -29,49 +56,104 @@ pub(crate) const VALUE: usize = 57;
 
 pub(crate) const GATE: usize = 58;
 
-pub(crate) fn put(alloc: Global, cache: &str, key: &str, value: &str) -> Result<Mutation, Fail> {
-    Ok(Mutation::Put(
-        CacheName::of(alloc, cache).ok().ok_or("a name")?,
-        Key::of(alloc, key).ok().ok_or("a key")?,
-        Value::of(alloc, value).ok().ok_or("a value")?,
-    ))
+// A file of these bytes, but for the byte at this offset, if it has one there.
+pub(crate) type File = (&'static [u8], usize, u8);
+
+pub(crate) const NONE: File = (b"", SEAL, 0);
+
+pub(crate) const ONE: File = (FIRST, SEAL, 1);
+
+pub(crate) const TWO: File = (SECOND, SEAL, 1);
+
+// Another store without its seal.
+pub(crate) const ERASED: File = (SECOND, SEAL, 0);
+
+// A seal and all of a header but its last byte.
+pub(crate) const HALF: File = (
+    b"\x01PST1\x00\x01\x00\x00\x00\x00\x00\x00\x00\x00\x00\x01\x00\x00\x00\x00\x00\x00\x00\x01\
+\x00\x00\x00\x02\x00\x00\x00\x00\x00\x00\x00\x00\x00\x00\x00",
+    SEAL,
+    1,
+);
+
+// Which changing call of a disk fails, and which reading call, 0 for none; and which pick a restart takes.
+pub(crate) type Plan = (u64, u64, u8);
+
+// What was found is what is wanted.
+pub(crate) fn expect_same<T: PartialEq + Debug + Drop>(
+    rt: &impl Abort,
+    case: &str,
+    found: T,
+    want: T,
+) {
+    assert_eq!(rt; found, want, "{case}");
 }
 
-pub(crate) fn changed(
+pub(crate) fn put(rt: &impl Abort, alloc: Global, value: &str) -> Mutation {
+    Mutation::Put(
+        CacheName::of(alloc, "c").expect(rt, "a name"),
+        Key::of(alloc, "a").expect(rt, "a key"),
+        Value::of(alloc, value).expect(rt, "a value"),
+    )
+}
+
+// The mutations are so many puts of this value.
+pub(crate) fn expect_puts(
+    rt: &impl Abort,
     alloc: Global,
-    bytes: &[u8],
-    offset: usize,
-    byte: u8,
-) -> Result<Vec<u8>, AllocError> {
-    let mut bytes = bytes.to_vec(alloc)?;
-    if offset < bytes.len() {
-        bytes[offset] = byte;
+    case: &str,
+    mutations: &[Mutation],
+    count: usize,
+    value: &str,
+) {
+    let want = put(rt, alloc, value);
+    expect_same(rt, case, mutations.len(), count);
+    for mutation in mutations {
+        expect_same(rt, case, mutation, &want);
     }
-    Ok(bytes)
 }
 
-// A disk whose files 0 and 1 hold these bytes, written by its changing calls 1 to 4. Its calls with these numbers fail, and
-// a restart takes this pick.
+pub(crate) fn bytes_of(rt: &impl Abort, alloc: Global, file: File) -> Vec<u8> {
+    let (bytes, offset, byte) = file;
+    let mut bytes = bytes.to_vec(alloc).expect(rt, "bytes");
+    if let Some(there) = bytes.get_mut(offset) {
+        *there = byte;
+    }
+    bytes
+}
+
+// The number, unless it is 0.
+fn numbers(rt: &impl Abort, alloc: Global, number: u64) -> Vec<u64> {
+    let mut numbers = Vec::new(alloc);
+    if number != 0 {
+        numbers.push(number).expect(rt, "a number");
+    }
+    numbers
+}
+
+// A disk with these files 0 and 1, written by its changing calls 1 to 4.
 pub(crate) fn disk_of(
+    rt: &impl Abort,
     alloc: Global,
-    first: &[u8],
-    second: &[u8],
-    fail: &[u64],
-    fail_reads: &[u64],
-    pick: u8,
-) -> Result<MemoryDisk, Fail> {
+    files: (File, File),
+    plan: Plan,
+) -> MemoryDisk {
     let plan = DiskPlan {
-        fail: fail.to_vec(alloc)?,
-        fail_reads: fail_reads.to_vec(alloc)?,
+        fail: numbers(rt, alloc, plan.0),
+        fail_reads: numbers(rt, alloc, plan.1),
         fuse: None,
-        pick,
+        pick: plan.2,
     };
-    let mut disk = MemoryDisk::new(alloc, plan)?;
-    write_synced(&mut disk, 0, 0, first)
-        .ok()
-        .ok_or("a first file")?;
-    write_synced(&mut disk, 1, 0, second)
-        .ok()
-        .ok_or("a second file")?;
-    Ok(disk)
+    let mut disk = MemoryDisk::new(alloc, plan).expect(rt, "a disk");
+    let first = bytes_of(rt, alloc, files.0);
+    write_synced(&mut disk, 0, 0, first.as_slice()).expect(rt, "file 0");
+    let second = bytes_of(rt, alloc, files.1);
+    write_synced(&mut disk, 1, 0, second.as_slice()).expect(rt, "file 1");
+    disk
+}
+
+// What a recovery opens after a restart.
+pub(crate) fn newest_of<D: Disk>(alloc: Global, disk: &mut D) -> Result<Loaded, NewestFault> {
+    disk.restart();
+    load_newest(alloc, disk, 0, 2)
 }

@@ -1,9 +1,11 @@
 //! One store over a host that keeps one file in memory.
-use crate::fixtures::put;
+use crate::fixtures::{
+    File, HALF, HEADER, ID, SEAL, WHOLE, bytes_of, expect_puts, expect_same, put,
+};
 use disk_trait::{Disk, DiskRefusal};
-use record_form::{Group, Header, encode_tail};
-use std::alloc::{AllocError, Global};
-use std::test::Fail;
+use record_form::{Group, encode_tail};
+use std::alloc::Global;
+use std::process::Abort;
 use store_ident::StoreId;
 use store_journal::{LoadFault, Loaded, Store, clear, identify};
 use untold_disk::{Host, UntoldDisk};
@@ -16,11 +18,11 @@ struct OneFile {
 }
 
 impl OneFile {
-    fn starting(alloc: Global, bytes: &[u8]) -> Result<Self, AllocError> {
-        Ok(OneFile {
-            bytes: bytes.to_vec(alloc)?,
+    fn holding(alloc: Global, bytes: Vec<u8>) -> Self {
+        OneFile {
+            bytes,
             calls: Vec::new(alloc),
-        })
+        }
     }
 
     fn shown(&self, file: u8) -> &[u8] {
@@ -70,168 +72,172 @@ impl Host for OneFile {
     }
 }
 
-// The header of the first store of partition 0 on host 0, where there is one partition.
-const FIRST: Header = Header {
-    id: StoreId {
-        partition: 0,
-        version: 1,
-        epoch: 1,
-        host: 0,
-    },
-    partitions: 1,
-};
+type OneDisk = UntoldDisk<OneFile>;
 
-// A seal, that header, the record of the put of 1 at key a of cache c, and a closed gate.
-const WHOLE: &[u8] =
-    b"\x01PST1\x00\x01\x00\x00\x00\x00\x00\x00\x00\x00\x00\x01\x00\x00\x00\x00\x00\x00\x00\x01\
-\x00\x00\x00\x01\x00\x00\x00\x00\x00\x00\x00\x00\x00\x00\x00\x00\x01\x00\x00\x00\x0c\x01\x01\x01c\x00\x01a\
-\x00\x00\x00\x011\x00";
+fn disk_of(rt: &impl Abort, alloc: Global, file: File) -> OneDisk {
+    UntoldDisk::over(OneFile::holding(alloc, bytes_of(rt, alloc, file)))
+}
 
-#[test]
-fn a_store_is_its_bytes(rt: HostRuntime) -> Result<(), Fail> {
-    let group = Group::one(put(rt.alloc(), "c", "a", "1")?)?;
-    let tail = encode_tail(rt.alloc(), &group)?;
-    for (case, bytes, calls) in [
-        ("no file", b"".as_slice(), b"wscwwswswsws".as_slice()),
-        (
-            "a first byte of zero",
-            b"\x00PST".as_slice(),
-            b"cwwswswsws".as_slice(),
-        ),
-        (
-            "a torn first byte",
-            b"\x07".as_slice(),
-            b"wscwwswswsws".as_slice(),
-        ),
-        ("a store", WHOLE, b"wscwwswswsws".as_slice()),
-    ] {
-        let mut disk = UntoldDisk::over(OneFile::starting(rt.alloc(), bytes)?);
-        let mut store = Store::create(&mut disk, 0, FIRST).ok().ok_or("a store")?;
-        assert_eq!(rt; store.end, 41, "{case}");
-        assert_eq!(rt; store.append(&mut disk, tail.as_slice()), Ok(()), "{case}");
-        assert_eq!(rt; store.end, 58, "{case}");
-        assert_eq!(rt; disk.length(0), Ok(59), "{case}");
-        let mut found = [0; 59];
-        assert_eq!(rt; disk.read(0, 0, &mut found), Ok(59), "{case}");
-        assert_eq!(rt; found.as_slice(), WHOLE, "{case}");
-        let mut made = [0; 12];
-        assert_eq!(rt; disk.read(1, 0, &mut made), Ok(calls.len()), "{case}");
-        assert_eq!(rt; &made[..calls.len()], calls, "{case}");
-    }
-    Ok(())
+// All that a read of this file gives: the bytes, or of file 1 the calls.
+fn expect_shown(rt: &impl Abort, case: &str, disk: &mut OneDisk, file: u8, want: &[u8]) {
+    let mut found = [0; 64];
+    expect_same(rt, case, disk.length(file), Ok(want.len() as u64));
+    let count = disk.read(file, 0, &mut found).expect(rt, case);
+    expect_same(rt, case, found.get(..count), Some(want));
+}
+
+// What stands in the file before a store is made, and the calls that make it with one put.
+const STARTS: &[(&str, File, &[u8])] = &[
+    ("no file", (b"", SEAL, 0), b"wscwwswswsws"),
+    ("a first byte of zero", (b"\x00PST", SEAL, 0), b"cwwswswsws"),
+    ("a torn first byte", (b"\x07", SEAL, 7), b"wscwwswswsws"),
+    ("a store", (WHOLE, SEAL, 1), b"wscwwswswsws"),
+];
+
+// A store is made, and the put of 1 is appended.
+fn make(rt: &impl Abort, alloc: Global, case: &str, disk: &mut OneDisk) {
+    let group = Group::one(put(rt, alloc, "1")).expect(rt, case);
+    let tail = encode_tail(alloc, &group).expect(rt, case);
+    let mut store = Store::create(disk, 0, HEADER).expect(rt, case);
+    expect_same(rt, case, store.end, 41);
+    expect_same(rt, case, store.append(disk, tail.as_slice()), Ok(()));
+    expect_same(rt, case, store.end, 58);
 }
 
 #[test]
-fn a_sealed_file_alone_is_cleared(rt: HostRuntime) -> Result<(), Fail> {
-    for (case, bytes, first, calls) in [
-        ("a store", WHOLE, 0, b"ws".as_slice()),
-        ("a store cut short", &WHOLE[..40], 1, b"".as_slice()),
-        (
-            "a first byte of zero",
-            b"\x00PST".as_slice(),
-            0,
-            b"".as_slice(),
-        ),
-    ] {
-        let mut disk = UntoldDisk::over(OneFile::starting(rt.alloc(), bytes)?);
-        assert_eq!(rt; clear(&mut disk, 0), Ok(()), "{case}");
-        let mut found = [7];
-        assert_eq!(rt; disk.read(0, 0, &mut found), Ok(1), "{case}");
-        assert_eq!(rt; found[0], first, "{case}");
-        assert_eq!(rt; disk.length(0), Ok(bytes.len() as u64), "{case}");
-        assert_eq!(rt; disk.length(1), Ok(calls.len() as u64), "{case}");
+fn a_store_is_its_bytes(rt: HostRuntime) {
+    for (case, file, calls) in STARTS {
+        let mut disk = disk_of(&rt, rt.alloc(), *file);
+        make(&rt, rt.alloc(), case, &mut disk);
+        expect_shown(&rt, case, &mut disk, 0, WHOLE);
+        expect_shown(&rt, case, &mut disk, 1, calls);
     }
-    Ok(())
 }
 
-// What loading these bytes as the store of a partition answers.
+// A file's first byte after it was cleared, and the calls.
+const CLEARED: &[(&str, File, u8, &[u8])] = &[
+    ("a store", (WHOLE, SEAL, 1), 0, b"ws"),
+    ("a store cut short", HALF, 1, b""),
+    ("a first byte of zero", (b"\x00PST", SEAL, 0), 0, b""),
+];
+
+#[test]
+fn a_sealed_file_alone_is_cleared(rt: HostRuntime) {
+    for (case, file, first, calls) in CLEARED {
+        let mut disk = disk_of(&rt, rt.alloc(), *file);
+        expect_same(&rt, case, clear(&mut disk, 0), Ok(()));
+        let want = bytes_of(&rt, rt.alloc(), (file.0, SEAL, *first));
+        expect_shown(&rt, case, &mut disk, 0, want.as_slice());
+        expect_shown(&rt, case, &mut disk, 1, calls);
+    }
+}
+
+// What loading the file as the store of a partition answers.
 fn load_of(
+    rt: &impl Abort,
     alloc: Global,
-    bytes: &[u8],
+    file: File,
     partition: u16,
     partitions: u16,
-) -> Result<Result<Loaded, LoadFault>, AllocError> {
-    let mut disk = UntoldDisk::over(OneFile::starting(alloc, bytes)?);
-    Ok(Store::load(alloc, &mut disk, 0, partition, partitions))
+) -> Result<Loaded, LoadFault> {
+    let mut disk = disk_of(rt, alloc, file);
+    Store::load(alloc, &mut disk, 0, partition, partitions)
+}
+
+// The bytes of that store with its record once more.
+const TWICE: &[u8] =
+    b"\x01PST1\x00\x01\x00\x00\x00\x00\x00\x00\x00\x00\x00\x01\x00\x00\x00\x00\x00\x00\x00\x01\
+\x00\x00\x00\x01\x00\x00\x00\x00\x00\x00\x00\x00\x00\x00\x00\x00\x01\x00\x00\x00\x0c\x01\x01\x01c\x00\x01a\
+\x00\x00\x00\x011\x01\x00\x00\x00\x0c\x01\x01\x01c\x00\x01a\x00\x00\x00\x011\x00";
+
+// How many puts a store has, and where it ends.
+const LOADED: &[(&str, File, usize, u64)] = &[
+    ("one record", (WHOLE, SEAL, 1), 1, 58),
+    ("two records", (TWICE, SEAL, 1), 2, 75),
+    ("a record following a closed gate", (WHOLE, 41, 0), 0, 41),
+];
+
+#[test]
+fn a_store_is_loaded(rt: HostRuntime) {
+    for (case, file, count, end) in LOADED {
+        let loaded = load_of(&rt, rt.alloc(), *file, 0, 1).expect(&rt, case);
+        expect_same(&rt, case, loaded.store.file, 0);
+        expect_same(&rt, case, loaded.store.id, ID);
+        expect_same(&rt, case, loaded.store.end, *end);
+        let mutations = loaded.mutations.as_slice();
+        expect_puts(&rt, rt.alloc(), case, mutations, *count, "1");
+    }
+}
+
+// An offset of the store, another byte there, and the offset of the damage.
+const FAULTS: &[(&str, usize, u8, u64)] = &[
+    ("another magic", 4, b'2', 1),
+    ("another partition", 8, 1, 7),
+    ("no version", 16, 0, 9),
+    ("another number of partitions", 28, 2, 27),
+    ("a payload of no byte", 45, 0, 42),
+    ("no mutation", 46, 0, 46),
+    ("another tag", 47, 7, 47),
+    ("a payload of a byte less", 45, 11, 57),
+    ("a payload of a byte more", 45, 13, 58),
+    ("no closed gate", 58, 1, 59),
+];
+
+#[test]
+fn a_file_is_refused_at_its_first_fault(rt: HostRuntime) {
+    for (case, offset, byte, at) in FAULTS {
+        let fault = load_of(&rt, rt.alloc(), (WHOLE, *offset, *byte), 0, 1).err();
+        expect_same(&rt, case, fault, Some(LoadFault::Damaged { at: *at }));
+    }
 }
 
 #[test]
-fn a_store_is_loaded(rt: HostRuntime) -> Result<(), Fail> {
-    let want = put(rt.alloc(), "c", "a", "1")?;
-    let mut twice = WHOLE[..58].to_vec(rt.alloc())?;
-    twice.extend_from_slice(&WHOLE[41..])?;
-    let mut closed = WHOLE.to_vec(rt.alloc())?;
-    closed[41] = 0;
-    for (case, bytes, count, end) in [
-        ("one record", WHOLE, 1, 58),
-        ("two records", twice.as_slice(), 2, 75),
-        ("a record following a closed gate", closed.as_slice(), 0, 41),
-    ] {
-        let loaded = load_of(rt.alloc(), bytes, 0, 1)?.ok().ok_or("a store")?;
-        assert_eq!(rt; loaded.store.file, 0, "{case}");
-        assert_eq!(rt; loaded.store.id, FIRST.id, "{case}");
-        assert_eq!(rt; loaded.store.end, end, "{case}");
-        assert_eq!(rt; loaded.mutations.len(), count, "{case}");
-        for mutation in &loaded.mutations {
-            assert_eq!(rt; mutation, &want, "{case}");
-        }
+fn a_file_that_is_cut_is_refused_at_its_end(rt: HostRuntime) {
+    for length in [41, 44, 50, 58] {
+        let file = (&WHOLE[..length], SEAL, 1);
+        let fault = load_of(&rt, rt.alloc(), file, 0, 1).err();
+        let want = LoadFault::Damaged { at: length as u64 };
+        expect_same(&rt, "a cut file", fault, Some(want));
     }
-    Ok(())
+}
+
+// Files with no store.
+const SEALLESS: &[(&str, File)] = &[
+    ("no seal", (WHOLE, SEAL, 0)),
+    ("no byte", (b"", SEAL, 0)),
+    ("half a header", HALF),
+];
+
+#[test]
+fn a_file_without_a_seal_is_not_loaded(rt: HostRuntime) {
+    for (case, file) in SEALLESS {
+        let fault = load_of(&rt, rt.alloc(), *file, 0, 1).err();
+        expect_same(&rt, case, fault, Some(LoadFault::NotSealed));
+    }
 }
 
 #[test]
-fn a_file_is_refused_at_its_first_fault(rt: HostRuntime) -> Result<(), Fail> {
-    let damaged = |at| LoadFault::Damaged { at };
-    for (case, offset, byte, want) in [
-        ("no seal", 0, 0, LoadFault::NotSealed),
-        ("another magic", 4, b'2', damaged(1)),
-        ("another partition", 8, 1, damaged(7)),
-        ("no version", 16, 0, damaged(9)),
-        ("another number of partitions", 28, 2, damaged(27)),
-        ("a payload of no byte", 45, 0, damaged(42)),
-        ("no mutation", 46, 0, damaged(46)),
-        ("another tag", 47, 7, damaged(47)),
-        ("a payload of a byte less", 45, 11, damaged(57)),
-        ("a payload of a byte more", 45, 13, damaged(58)),
-        ("no closed gate", 58, 1, damaged(59)),
-    ] {
-        let mut bytes = WHOLE.to_vec(rt.alloc())?;
-        bytes[offset] = byte;
-        let fault = load_of(rt.alloc(), bytes.as_slice(), 0, 1)?.err();
-        assert_eq!(rt; fault, Some(want), "{case}");
-    }
-    Ok(())
+fn a_store_is_of_one_partition(rt: HostRuntime) {
+    let fault = load_of(&rt, rt.alloc(), (WHOLE, SEAL, 1), 1, 2).err();
+    let want = LoadFault::Damaged { at: 7 };
+    expect_same(&rt, "another partition", fault, Some(want));
 }
 
-#[test]
-fn a_file_that_is_cut_is_refused_at_its_end(rt: HostRuntime) -> Result<(), Fail> {
-    for (case, length, want) in [
-        ("no byte", 0, LoadFault::NotSealed),
-        ("half a header", 40, LoadFault::NotSealed),
-        ("no gate", 41, LoadFault::Damaged { at: 41 }),
-        ("half a length", 44, LoadFault::Damaged { at: 44 }),
-        ("half a payload", 50, LoadFault::Damaged { at: 50 }),
-        ("no closed gate", 58, LoadFault::Damaged { at: 58 }),
-    ] {
-        let fault = load_of(rt.alloc(), &WHOLE[..length], 0, 1)?.err();
-        assert_eq!(rt; fault, Some(want), "{case}");
-    }
-    let fault = load_of(rt.alloc(), WHOLE, 1, 2)?.err();
-    assert_eq!(rt; fault, Some(LoadFault::Damaged { at: 7 }));
-    Ok(())
-}
+// Files, and what identifying their store answers.
+const NAMED: &[(&str, File, Result<Option<StoreId>, LoadFault>)] = &[
+    ("no seal", (WHOLE, SEAL, 0), Ok(None)),
+    (
+        "another magic",
+        (WHOLE, 4, b'2'),
+        Err(LoadFault::Damaged { at: 1 }),
+    ),
+    ("no closed gate", (WHOLE, 58, 1), Ok(Some(ID))),
+];
 
 #[test]
-fn a_file_names_its_store(rt: HostRuntime) -> Result<(), Fail> {
-    for (case, offset, byte, want) in [
-        ("no seal", 0, 0, Ok(None)),
-        ("another magic", 4, b'2', Err(LoadFault::Damaged { at: 1 })),
-        ("no closed gate", 58, 1, Ok(Some(FIRST.id))),
-    ] {
-        let mut bytes = WHOLE.to_vec(rt.alloc())?;
-        bytes[offset] = byte;
-        let mut disk = UntoldDisk::over(OneFile::starting(rt.alloc(), bytes.as_slice())?);
-        assert_eq!(rt; identify(&mut disk, 0), want, "{case}");
+fn a_file_names_its_store(rt: HostRuntime) {
+    for (case, file, want) in NAMED {
+        let mut disk = disk_of(&rt, rt.alloc(), *file);
+        expect_same(&rt, case, identify(&mut disk, 0), *want);
     }
-    Ok(())
 }

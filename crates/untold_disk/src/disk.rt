@@ -1,6 +1,6 @@
 // The disk over a host: which answers it hands on, and which refusals it counts.
 ghost use Rattle.std.specs.Prelude.{◌≡◌, ℕ, ◌+◌, ◌<◌, ◌≤◌, ◌^◌, length, nat_lt, nat_le, Ok, Err, OnOk, IfOk};
-ghost use Rattle.fault_count.specs.Rose.{Rose};
+ghost use Rattle.fault_count.specs.OneMore.{IsOneMore};
 ghost use Rattle.disk_trait.specs.Calls.{Fewer, Cause, KeepsOthers};
 ghost use Rattle.disk_trait.specs.View.{untold};
 ghost use Rattle.disk_trait.specs.declared.DiskRefusal.TheVariants.{Failed};
@@ -115,7 +115,7 @@ impl<H: Host + Drop> Disk for UntoldDisk<H> {
     fn restart(&mut self)
         ensures images { Fewer (untold self.old.faults self.old.restarts) (untold self.new.faults self.new.restarts) }
         ensures host { self.new ≡ record self.old { restarts = self.new.restarts } }
-        ensures counted { Rose self.old.restarts self.new.restarts }
+        ensures counted { IsOneMore self.old.restarts self.new.restarts }
         ensures no_less { self.old.restarts ≤ self.new.restarts }
     {
         self.restarts = one_more(self.restarts);

@@ -21,7 +21,7 @@ returns-clause-ends g c = λ first script at left.
     ends_refines _ _ _
     (refines (λ machine. machine.hosts.now) (λ machine. machine.cluster.now) (λ machine. g.D.Disk.view machine.disk.now) _ _
     (λ old new command answer step. (ap (λ h. h.now) step.0, step.2)) (λ old new command off. off.2) _ _ _ first (refl, at_same _ _ _ first c.requires.closed at))
-    script _ _ _ _ (c.report_script.ensures.ends script left)
+    script _ _ _ _ _ (c.report_script.ensures.ends script left)
 
 pub returns-clause-kept : goal.returns-clause-kept
 returns-clause-kept g c = λ first at.

@@ -19,18 +19,18 @@ returns-clause-cause g c = λ status is.
 
 pub returns-clause-ends : goal.returns-clause-ends
 returns-clause-ends g c = λ plan status is script left.
-    subst (λ (s : Status). ForRuns s g.D.Disk.view c.args.site c.run_words-ran.new.site (λ span. EndsReport span script (g.K.Sink.written c.args.sink.now) s (g.S.Source.left c.run_words-ran.new.source) (g.K.Sink.written c.run_words-ran.new.sink)))
+    subst (λ (s : Status). ForRuns s g.D.Disk.view c.args.site c.run_words-ran.new.site (λ span. EndsReport span script (Rose (g.S.Source.faults c.args.source.now) (g.S.Source.faults c.run_words-ran.new.source)) (g.K.Sink.written c.args.sink.now) s (g.S.Source.left c.run_words-ran.new.source) (g.K.Sink.written c.run_words-ran.new.sink)))
     (same_code _ status (sym c.code.ensures ∙ is)) (c.run_words-ran.ensures.ends plan script left)
 
 pub returns-clause-survives : goal.returns-clause-survives
 returns-clause-survives g c = λ plan status is script left.
     let why = c.run_words-ran.ensures in
     let same = same_code _ status (sym c.code.ensures ∙ is) in
-    let ends = subst (λ (s : Status). ForRuns s g.D.Disk.view c.args.site c.run_words-ran.new.site (λ span. EndsReport span script (g.K.Sink.written c.args.sink.now) s (g.S.Source.left c.run_words-ran.new.source) (g.K.Sink.written c.run_words-ran.new.sink)))
+    let ends = subst (λ (s : Status). ForRuns s g.D.Disk.view c.args.site c.run_words-ran.new.site (λ span. EndsReport span script (Rose (g.S.Source.faults c.args.source.now) (g.S.Source.faults c.run_words-ran.new.source)) (g.K.Sink.written c.args.sink.now) s (g.S.Source.left c.run_words-ran.new.source) (g.K.Sink.written c.run_words-ran.new.sink)))
     same (why.ends plan script left) in
     λ old new disks tells files does hold.
     let here = ends old new disks tells files does hold in
-    (here.0, here.1, here.2, here.3, survived _ script _ status _ _ (λ e. plan (why.words (same ∙ e))) here.4)
+    (here.0, here.1, here.2, here.3, survived _ script _ _ status _ _ (λ e. plan (why.words (same ∙ e))) here.4)
 
 pub returns-clause-kept : goal.returns-clause-kept
 returns-clause-kept g c = λ plan status is.
@@ -38,7 +38,7 @@ returns-clause-kept g c = λ plan status is.
 
 pub returns-clause-refused : goal.returns-clause-refused
 returns-clause-refused g c = λ none status is.
-    subst (λ (s : Status). IsRefused s (g.K.Sink.written c.args.sink.now) (g.K.Sink.written c.run_words-ran.new.sink) c.args.site c.run_words-ran.new.site) (same_code _ status (sym c.code.ensures ∙ is)) (c.run_words-ran.ensures.refused none)
+    subst (λ (s : Status). IsRefused s (g.S.Source.left c.args.source.now) (g.S.Source.left c.run_words-ran.new.source) (g.K.Sink.written c.args.sink.now) (g.K.Sink.written c.run_words-ran.new.sink) c.args.site c.run_words-ran.new.site) (same_code _ status (sym c.code.ensures ∙ is)) (c.run_words-ran.ensures.refused none)
 
 pub returns-clause-complete : goal.returns-clause-complete
 returns-clause-complete g c = λ plan script commands left is no_read no_write.

@@ -2,7 +2,9 @@ use Rattle.std.proofs.Common.{◌≡◌, ◌⊎◌, sym, ◌∙◌, subst}
 use Rattle.std.proofs.lemmas.Result.{err_from_is_err_and}
 use Rattle.newest_store.specs.declared.fault.NewestFault.{NewestFault}
 use Rattle.newest_store.specs.declared.fault.NewestFault.TheVariants.{Failed, NoMemory}
-use Rattle.newest_store.proofs.SearchLemmas.{reads_told, clear_told, whole_is_found, store_contents, survives_reads, survives_clear, unsealed_clear, one_is_left}
+use Rattle.newest_store.proofs.NewestLemmas.{store_contents, newest_undamaged}
+use Rattle.newest_store.proofs.SearchLemmas.{reads_told, clear_told, whole_is_found, newest_loaded, one_is_left}
+use Rattle.newest_store.proofs.ClearingLemmas.{while_loaded, while_older, erasing_survives, erasing_unsealed}
 use Rattle.newest_store.proofs.newest.load_newest.Goals as goal
 
 pub returns-in_err-loaded-clause-whole : goal.returns-in_err-loaded-clause-whole
@@ -13,46 +15,66 @@ returns-in_err-loaded-clause-whole g c file id changes fault is now tells =
     subst (λ (f : NewestFault). (f ≡ Failed) ⊎ (f ≡ NoMemory)) same
     (whole_is_found (g.D.Disk.view c.args.disk.now) (g.D.Disk.view c.load_found.new.disk) _ _ file id changes _ c.in_err-loaded.ensures.refused now tells)
 
+pub returns-in_err-loaded-clause-moments : goal.returns-in_err-loaded-clause-moments
+returns-in_err-loaded-clause-moments g c = while_loaded _ _ c.load_found.ensures.reads_only
+
+pub returns-in_err-loaded-clause-spoiled : goal.returns-in_err-loaded-clause-spoiled
+returns-in_err-loaded-clause-spoiled g c file at tells damaged = (c.load_found.ensures.reads_only.same, c.load_found.ensures.reads_only.moments)
+
+pub returns-in_err-clear-clause-spoiled : goal.returns-in_err-clear-clause-spoiled
+returns-in_err-clear-clause-spoiled g c file at tells damaged = absurd (newest_undamaged _ _ _ _ _ file at (newest_loaded _ _ _ _ _ _ c.in_ok-loaded.ensures.loaded tells) damaged)
+
+pub returns-clause-spoiled : goal.returns-clause-spoiled
+returns-clause-spoiled g c file at tells damaged = absurd (newest_undamaged _ _ _ _ _ file at (newest_loaded _ _ _ _ _ _ c.in_ok-loaded.ensures.loaded tells) damaged)
+
 pub returns-in_err-loaded-clause-survives : goal.returns-in_err-loaded-clause-survives
-returns-in_err-loaded-clause-survives g c file id changes now = survives_reads _ _ _ c.load_found.ensures.reads_only now
+returns-in_err-loaded-clause-survives g c file id changes now = erasing_survives _ _ _ _ file id changes (returns-in_err-loaded-clause-moments g c) now
+
+pub returns-in_err-loaded-clause-unsealed : goal.returns-in_err-loaded-clause-unsealed
+returns-in_err-loaded-clause-unsealed g c file within now = erasing_unsealed _ _ file (returns-in_err-loaded-clause-moments g c) within now
+
+pub returns-in_err-loaded-clause-told : goal.returns-in_err-loaded-clause-told
+returns-in_err-loaded-clause-told g c = λ tells. reads_told _ _ c.load_found.ensures.reads_only tells
+
+pub returns-in_err-clear-clause-moments : goal.returns-in_err-clear-clause-moments
+returns-in_err-clear-clause-moments g c =
+    while_older _ _ _ _ _ _ _ c.requires.first c.requires.second c.load_found.ensures.reads_only c.in_ok-loaded.ensures.loaded c.clear.ensures.moments c.clear.ensures.unsealed_moments
 
 pub returns-in_err-clear-clause-survives : goal.returns-in_err-clear-clause-survives
-returns-in_err-clear-clause-survives g c file id changes now =
-    survives_clear _ _ _ _ _ _ _ file id changes c.requires.first c.requires.second c.load_found.ensures.reads_only c.in_ok-loaded.ensures.loaded c.clear.ensures.moments c.clear.ensures.unsealed_moments now
+returns-in_err-clear-clause-survives g c file id changes now = erasing_survives _ _ _ _ file id changes (returns-in_err-clear-clause-moments g c) now
+
+pub returns-in_err-clear-clause-unsealed : goal.returns-in_err-clear-clause-unsealed
+returns-in_err-clear-clause-unsealed g c file within now = erasing_unsealed _ _ file (returns-in_err-clear-clause-moments g c) within now
+
+pub returns-in_err-clear-clause-told : goal.returns-in_err-clear-clause-told
+returns-in_err-clear-clause-told g c = λ tells. clear_told _ _ _ _ c.load_found.ensures.reads_only c.clear.ensures.moments tells
+
+pub returns-in_err-clear-clause-blank : goal.returns-in_err-clear-clause-blank
+returns-in_err-clear-clause-blank g c = λ tells none. let newest = c.in_ok-loaded.ensures.loaded.newest tells in absurd (none _ newest.one_of_two newest.sealed)
 
 pub returns-clause-opened : goal.returns-clause-opened
 returns-clause-opened g c =
     one_is_left _ _ _ _ _ _ _ c.requires.first c.requires.second c.in_ok-loaded.ensures.loaded c.clear.ensures.moments c.in_ok-clear.ensures.cleared
 
+pub returns-clause-read : goal.returns-clause-read
+returns-clause-read g c = λ tells. newest_loaded _ _ _ _ _ _ c.in_ok-loaded.ensures.loaded tells
+
 pub returns-clause-contents : goal.returns-clause-contents
-returns-clause-contents g c file id changes now tells = store_contents _ _ _ _ _ _ file id changes c.in_ok-loaded.ensures.loaded now tells
+returns-clause-contents g c file id changes now tells =
+    store_contents _ _ _ _ file id changes _ (returns-clause-read g c tells) (now _ tells)
+
+pub returns-clause-moments : goal.returns-clause-moments
+returns-clause-moments g c =
+    while_older _ _ _ _ _ _ _ c.requires.first c.requires.second c.load_found.ensures.reads_only c.in_ok-loaded.ensures.loaded c.clear.ensures.moments c.clear.ensures.unsealed_moments
 
 pub returns-clause-survives : goal.returns-clause-survives
-returns-clause-survives g c file id changes now =
-    survives_clear _ _ _ _ _ _ _ file id changes c.requires.first c.requires.second c.load_found.ensures.reads_only c.in_ok-loaded.ensures.loaded c.clear.ensures.moments c.clear.ensures.unsealed_moments now
+returns-clause-survives g c file id changes now = erasing_survives _ _ _ _ file id changes (returns-clause-moments g c) now
 
-pub returns-in_err-loaded-clause-told : goal.returns-in_err-loaded-clause-told
-returns-in_err-loaded-clause-told g c = λ tells. reads_told _ _ c.load_found.ensures.reads_only tells
-
-pub returns-in_err-clear-clause-told : goal.returns-in_err-clear-clause-told
-returns-in_err-clear-clause-told g c = λ tells. clear_told _ _ _ _ c.load_found.ensures.reads_only c.clear.ensures.moments tells
+pub returns-clause-unsealed : goal.returns-clause-unsealed
+returns-clause-unsealed g c file within now = erasing_unsealed _ _ file (returns-clause-moments g c) within now
 
 pub returns-clause-told : goal.returns-clause-told
 returns-clause-told g c = λ tells. clear_told _ _ _ _ c.load_found.ensures.reads_only c.clear.ensures.moments tells
 
-pub returns-in_err-clear-clause-blank : goal.returns-in_err-clear-clause-blank
-returns-in_err-clear-clause-blank g c = λ tells none. let newest = c.in_ok-loaded.ensures.loaded.newest tells in absurd (none _ newest.one_of_two newest.sealed)
-
 pub returns-clause-blank : goal.returns-clause-blank
 returns-clause-blank g c = λ tells none. let newest = c.in_ok-loaded.ensures.loaded.newest tells in absurd (none _ newest.one_of_two newest.sealed)
-
-pub returns-in_err-loaded-clause-unsealed : goal.returns-in_err-loaded-clause-unsealed
-returns-in_err-loaded-clause-unsealed g c file within now = survives_reads _ _ _ c.load_found.ensures.reads_only now
-
-pub returns-in_err-clear-clause-unsealed : goal.returns-in_err-clear-clause-unsealed
-returns-in_err-clear-clause-unsealed g c file within now =
-    unsealed_clear _ _ _ _ _ _ _ file c.requires.first c.requires.second c.load_found.ensures.reads_only c.in_ok-loaded.ensures.loaded c.clear.ensures.moments c.clear.ensures.unsealed_moments within now
-
-pub returns-clause-unsealed : goal.returns-clause-unsealed
-returns-clause-unsealed g c file within now =
-    unsealed_clear _ _ _ _ _ _ _ file c.requires.first c.requires.second c.load_found.ensures.reads_only c.in_ok-loaded.ensures.loaded c.clear.ensures.moments c.clear.ensures.unsealed_moments within now

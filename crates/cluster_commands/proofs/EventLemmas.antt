@@ -1,0 +1,134 @@
+-- Events are carried out, or are broken off.
+use Rattle.std.proofs.Common.{◌≡◌, ◌≢◌, ◌⊎◌, inl, inr, ⊎_elim, List, [], ◌∷◌, ◌++◌, refl, sym, ◌∙◌, ap, subst, append_assoc, Bool, false, true, Option, Some, None, Result, Ok, Err, IfOk, OnErr}
+use Rattle.std.proofs.lemmas.List.{append-nil}
+use Rattle.std.specs.Prelude.{is_some}
+use Rattle.fault_count.specs.Rose.{Rose}
+use Rattle.cache_key.specs.declared.request.Mutation.{Mutation}
+use Rattle.cache_key.specs.declared.request.Reply.{Reply}
+use Rattle.cache_key.specs.declared.request.Request.{Request}
+use Rattle.cache_model.specs.Change.{Change}
+use Rattle.cache_model.specs.Reply.{mutation_of, reply_after, changes_in, changes_asked}
+use Rattle.disk_trait.specs.View.{View}
+use Rattle.disk_trait.specs.Moments.{Onward}
+use Rattle.disk_trait.proofs.Runs.{onward_none}
+use Rattle.script_lines.specs.declared.command.Event.{Event}
+use Rattle.script_lines.specs.declared.command.Event.TheVariants.{Call}
+use Rattle.script_lines.specs.declared.answer.Outcome.{Outcome}
+use Rattle.script_lines.specs.declared.answer.Outcome.TheVariants.{Replied, Refused}
+use Rattle.script_lines.specs.declared.answer.Refusal.{Refusal}
+use Rattle.script_lines.specs.declared.answer.Refusal.TheVariants as refusals
+use Rattle.cluster_commands.specs.State.{OpenCluster, opened, failing, changed, State, Counts, CallChange, EventStep, EventRun}
+use Rattle.cluster_commands.specs.Breaks.{IsInFlight, EventBreaks, NextBreaks, EventsBreak}
+use Rattle.cluster_commands.specs.OnDisk.{cluster_of, stage_with, stage_of, state_of}
+use Rattle.cluster_commands.specs.declared.cluster.Opened.{Opened}
+
+-- ---- one request
+
+-- no restart came between
+pub counts_on : (old new : Opened) (v w : View) (tells : Bool) → Onward v w → Counts false (state_of old v tells) (state_of new w tells)
+counts_on old new v w tells on = record { faults = on.faults; restarts = on.restarts; tells = refl }
+
+-- a mutation's request changes something
+asks : (request : Request) (change : Change) → changes_asked request ≡ change ∷ [] → changes_asked request ≢ []
+asks request change is none = cc
+
+module _ (old new : Opened) (v w : View) (tells : Bool) (request : Request) (on : Onward v w) where
+  -- nothing is in flight before
+  at_sound : (outcome : Outcome) → old.flight ≡ None → CallChange (opened (cluster_of old)) request outcome (stage_of new) (Rose v.faults w.faults)
+      → EventStep (state_of old v tells) (Call request) outcome (state_of new w tells)
+  at_sound outcome sound is =
+      (counts_on old new v w tells on, subst (λ (f : Option Mutation). CallChange (stage_with (cluster_of old) f) request outcome (stage_of new) (Rose v.faults w.faults)) (sym sound) is)
+
+  -- the mutation is durable
+  pub replied : (change : Change) (reply : Reply) → old.flight ≡ None → changes_asked request ≡ change ∷ [] → reply ≡ reply_after (cluster_of old).changes request
+      → stage_of new ≡ opened (changed (cluster_of old) (change ∷ [])) → EventStep (state_of old v tells) (Call request) (Replied reply) (state_of new w tells)
+  replied change reply sound asked is entered =
+      at_sound (Replied reply) sound (is, entered ∙ ap (λ (cs : List Change). opened (changed (cluster_of old) cs)) (sym asked))
+
+  -- the disk failed under it
+  pub failed : (change : Change) (refusal : Refusal) → old.flight ≡ None → changes_asked request ≡ change ∷ [] → refusal ≡ refusals.Fault old.host → Rose v.faults w.faults
+      → stage_of new ≡ failing (cluster_of old) (change ∷ []) → EventStep (state_of old v tells) (Call request) (Refused refusal) (state_of new w tells)
+  failed change refusal sound asked is rose stage =
+      at_sound (Refused refusal) sound (is, rose, asks request change asked, stage ∙ ap (λ (cs : List Change). failing (cluster_of old) cs) (sym asked))
+
+  in_flight : (flight : Option Mutation) (change : Change) → flight ≡ None → changes_asked request ≡ change ∷ [] → stage_of new ≡ failing (cluster_of old) (change ∷ [])
+      → IsInFlight (stage_with (cluster_of old) flight) request (stage_of new)
+  in_flight None change sound asked stage = (asks request change asked, stage ∙ ap (λ (cs : List Change). failing (cluster_of old) cs) (sym asked))
+  in_flight (Some mutation) change sound asked stage = absurd cc
+
+  -- memory ran out under it
+  pub broken : (change : Change) → old.flight ≡ None → changes_asked request ≡ change ∷ [] → (stage_of new ≡ stage_of old) ⊎ (stage_of new ≡ failing (cluster_of old) (change ∷ []))
+      → EventBreaks (state_of old v tells) (Call request) (state_of new w tells)
+  broken change sound asked stage = (counts_on old new v w tells on, ⊎_elim inl (λ flies. inr (in_flight old.flight change sound asked flies)) stage)
+
+-- nothing was done
+pub not_begun : (old : Opened) (v : View) (tells : Bool) (request : Request) → EventBreaks (state_of old v tells) (Call request) (state_of old v tells)
+not_begun old v tells request = (counts_on old old v v tells (onward_none v), inl refl)
+
+-- a request that changes nothing is answered from memory
+unasked : (cluster : OpenCluster) (flight : Option Mutation) (request : Request) (reply : Reply) (fault : Type 0) → mutation_of request ≡ None → reply ≡ reply_after cluster.changes request
+    → CallChange (stage_with cluster flight) request (Replied reply) (stage_with cluster flight) fault
+unasked cluster None request reply fault none is =
+    let asked : changes_asked request ≡ [] = ap changes_in none in
+    (is, ap (λ (cs : List Change). opened (record { host = cluster.host; file = cluster.file; id = cluster.id; changes = cs })) (sym (ap (λ (cs : List Change). cluster.changes ++ cs) asked ∙ append-nil cluster.changes)))
+unasked cluster (Some mutation) request reply fault none is = (is, ap changes_in none, refl)
+
+pub answered : (old : Opened) (v : View) (tells : Bool) (request : Request) (reply : Reply) → None ≡ mutation_of request → reply ≡ reply_after (cluster_of old).changes request
+    → EventStep (state_of old v tells) (Call request) (Replied reply) (state_of old v tells)
+answered old v tells request reply none is = (counts_on old old v v tells (onward_none v), unasked (cluster_of old) old.flight request reply _ (sym none) is)
+
+some_asked : (mutation : Option Mutation) → is_some mutation ≡ true → changes_in mutation ≢ []
+some_asked None is none = cc
+some_asked (Some mutation) is none = cc
+
+refused : (cluster : OpenCluster) (flight : Option Mutation) (request : Request) (fault : Type 0) → is_some flight ≡ true → is_some (mutation_of request) ≡ true
+    → CallChange (stage_with cluster flight) request (Refused refusals.Closed) (stage_with cluster flight) fault
+refused cluster None request fault flies is = absurd cc
+refused cluster (Some mutation) request fault flies is = (refl, some_asked (mutation_of request) is, refl)
+
+-- changes are in flight, and no other is made
+pub shut : (old : Opened) (v : View) (tells : Bool) (request : Request) (outcome : Outcome) → outcome ≡ Refused refusals.Closed → is_some old.flight ≡ true → is_some (mutation_of request) ≡ true
+    → EventStep (state_of old v tells) (Call request) outcome (state_of old v tells)
+shut old v tells request outcome answer flies is =
+    (counts_on old old v v tells (onward_none v), subst (λ (o : Outcome). CallChange (stage_of old) request o (stage_of old) (Rose v.faults v.faults)) (sym answer) (refused (cluster_of old) old.flight request _ flies is))
+
+-- what an answer comes to, in other words
+pub ok_still : {T E : Type 0} (result : Result T E) (P Q : T → Type 0) → ((value : T) → P value → Q value) → IfOk result P → IfOk result Q
+ok_still (Ok value) P Q goes is = goes value is
+ok_still (Err fault) P Q goes is = tt
+
+pub err_still : {T E : Type 0} (result : Result T E) (P Q : Type 0) → (P → Q) → OnErr result P → OnErr result Q
+err_still (Ok value) P Q goes is = tt
+err_still (Err fault) P Q goes is = goes is
+
+-- ---- one after the other
+
+pub on_err : {T E : Type 0} (result : Result T E) (P : Type 0) → P → OnErr result P
+on_err (Ok value) P p = tt
+on_err (Err fault) P p = p
+
+pub event_run_more : (old : State) (events : List Event) (outcomes : List Outcome) (mid : State) (event : Event) (outcome : Outcome) (new : State)
+    → EventRun old events outcomes mid → EventStep mid event outcome new → EventRun old (events ++ event ∷ []) (outcomes ++ outcome ∷ []) new
+event_run_more old [] [] mid event outcome new run step = (new, subst (λ (m : State). EventStep m event outcome new) run step, refl)
+event_run_more old (e ∷ es) (o ∷ os) mid event outcome new run step = (run.0, run.1, event_run_more run.0 es os mid event outcome new run.2 step)
+event_run_more old [] (o ∷ os) mid event outcome new run step = absurd run
+event_run_more old (e ∷ es) [] mid event outcome new run step = absurd run
+
+-- the next event is broken off
+pub breaks_in : (old mid new : State) (events done rest : List Event) (event : Event) (outcomes : List Outcome) → events ≡ done ++ event ∷ rest
+    → EventRun old done outcomes mid → EventBreaks mid event new → EventsBreak old events new
+breaks_in old mid new events done rest event outcomes whole run breaks =
+    record { done = done; rest = event ∷ rest; outcomes = outcomes; mid = mid; whole = whole; run = run; then_ = inr breaks }
+
+next_none : (state : State) (rest : List Event) → NextBreaks state rest state
+next_none state [] = refl
+next_none state (event ∷ rest) = inl refl
+
+-- the events are broken off between two of them
+pub breaks_between : (old new : State) (events done rest : List Event) (outcomes : List Outcome) → events ≡ done ++ rest → EventRun old done outcomes new → EventsBreak old events new
+breaks_between old new events done rest outcomes whole run =
+    record { done = done; rest = rest; outcomes = outcomes; mid = new; whole = whole; run = run; then_ = next_none new rest }
+
+-- one event more is done
+pub turn : (events done : List Event) (event : Event) (rest before : List Event) → events ≡ done ++ before → before ≡ event ∷ rest → events ≡ (done ++ event ∷ []) ++ rest
+turn events done event rest before whole next = whole ∙ ap (λ (es : List Event). done ++ es) next ∙ sym (append_assoc done (event ∷ []) rest)

@@ -1,0 +1,4 @@
+mod CommandLemmas
+mod EventLemmas
+pub mod FilesLemmas
+mod StoredLemmas

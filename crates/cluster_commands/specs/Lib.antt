@@ -1,0 +1,4 @@
+pub mod Breaks
+pub mod OnDisk
+pub mod Refusals
+pub mod State

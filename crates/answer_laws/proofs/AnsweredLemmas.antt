@@ -5,6 +5,8 @@ use Rattle.std.proofs.lemmas.List.{append-nil}
 use Rattle.fault_count.specs.Rose.{Rose}
 use Rattle.cache_key.specs.declared.request.Request.{Request}
 use Rattle.cache_model.specs.Change.{Change}
+use Rattle.cache_key.specs.declared.request.Reply.{Reply}
+use Rattle.cache_model.specs.Parts.{parts_of, joined_reply}
 use Rattle.cache_model.specs.Reply.{changes_asked}
 use Rattle.disk_trait.specs.View.{Image, View}
 use Rattle.newest_store.specs.Newest.{HasStore}
@@ -16,9 +18,9 @@ use Rattle.script_lines.specs.declared.command.Event.TheVariants.{Call}
 use Rattle.script_lines.specs.declared.answer.Answer.{Answer}
 use Rattle.script_lines.specs.declared.answer.Outcome.{Outcome}
 use Rattle.script_lines.specs.declared.answer.Outcome.TheVariants.{Replied, Refused}
-use Rattle.cluster_commands.specs.State.{OpenCluster, KnownFiles, unknown, no_store, store_in, Stage, closed, opened, failing, files_at, State, EventChange, EventRun, OpenStep, ClosedStep, StageStep, first_store, made_at}
+use Rattle.cluster_commands.specs.State.{OpenCluster, KnownFiles, unknown, no_store, store_in, Stage, closed, opened, failing, files_at, State, changed, partition_count, CallChange, GoesOn, PartsChange, EventChange, EventRun, OpenStep, ClosedStep, StageStep, first_store, made_at}
 use Rattle.answer_laws.specs.Run.{Run}
-use Rattle.answer_laws.specs.Answered.{change_done, changes_done, changes_with, changes_since, changes_answered, IsCreated, HasCreated}
+use Rattle.answer_laws.specs.Answered.{changes_in_parts, change_done, changes_done, changes_with, changes_since, changes_answered, IsCreated, HasCreated}
 use Rattle.cluster_commands.specs.OnDisk.{FilesHold, HasFirstStore}
 
 -- ---- counts
@@ -59,11 +61,34 @@ Holds (closed (store_in alone file id saved flight)) changes = (file ≡ 0) × (
 Holds (opened cluster) changes = holds cluster changes
 Holds (failing cluster flight) changes = ⊥
 
+-- of an open cluster whose disk doesn't fail, what a part asks is done
+part_made : (cluster : OpenCluster) (part : Request) (found outcome : Outcome) (mid new : Stage) (fault R : Type 0) (Next : Reply → Type 0) → (fault → ⊥) → CallChange (opened cluster) part found mid fault
+    → GoesOn found mid outcome new Next → ((reply : Reply) → mid ≡ opened (changed cluster (changes_asked part)) → Next reply → R) → R
+part_made cluster part (Replied reply) outcome mid new fault R Next sound step next goes = goes reply step.1 next
+part_made cluster part (Refused refusal) outcome mid new fault R Next sound step next goes = absurd (sound step.1)
+
+-- so it is replied, and has made all that its parts ask
+abbrev IsMade : List Change → Outcome → Stage → Type 0
+IsMade changes outcome new = (reply : Reply) × (outcome ≡ Replied reply) × (next : OpenCluster) × (new ≡ opened next) × holds next changes
+
+parts_made : (cluster : OpenCluster) (changes : List Change) (request : Request) (parts : List (ℕ × Request)) (replies : List Reply) (outcome : Outcome) (new : Stage) (fault : Type 0) → (fault → ⊥)
+    → PartsChange (opened cluster) request parts replies outcome new fault → holds cluster changes → IsMade (changes ++ changes_in_parts parts) outcome new
+parts_made cluster changes request [] replies outcome new fault sound step has =
+    (joined_reply request replies, step.0, cluster, step.1, (has.0, has.1, has.2 ∙ sym (append-nil changes)))
+parts_made cluster changes request (part ∷ parts) replies outcome new fault sound step has =
+    part_made cluster part.1 step.0 outcome step.1 new fault (IsMade (changes ++ changes_in_parts (part ∷ parts)) outcome new) _ sound step.2 step.3
+    (λ reply stage next.
+    subst (λ (cs : List Change). IsMade cs outcome new) (append_assoc changes (changes_asked part.1) (changes_in_parts parts))
+    (parts_made (changed cluster (changes_asked part.1)) (changes ++ changes_asked part.1) request parts (replies ++ reply ∷ []) outcome new fault sound
+    (subst (λ (s : Stage). PartsChange s request parts (replies ++ reply ∷ []) outcome new fault) stage next)
+    (has.0, has.1, ap (λ (cs : List Change). cs ++ changes_asked part.1) has.2)))
+
 -- one event of an open cluster
 change_made : (cluster : OpenCluster) (changes : List Change) (event : Event) (outcome : Outcome) (new : Stage) (fault : Type 0) → (fault → ⊥) → EventChange (opened cluster) event outcome new fault
     → holds cluster changes → (next : OpenCluster) × (new ≡ opened next) × holds next (changes ++ change_done event outcome)
-change_made cluster changes (Call request) (Replied reply) new fault sound step has = (_, step.1, (has.0, has.1, ap (λ (cs : List Change). cs ++ changes_asked request) has.2))
-change_made cluster changes (Call request) (Refused refusal) new fault sound step has = absurd (sound step.1)
+change_made cluster changes (Call request) outcome new fault sound step has =
+    let made = parts_made cluster changes request (parts_of partition_count request) [] outcome new fault sound step has in
+    (made.2, made.3, subst (λ (o : Outcome). holds made.2 (changes ++ change_done (Call request) o)) (sym made.1) made.4)
 
 events_made : (old : State) (events : List Event) (outcomes : List Outcome) (new : State) (cluster : OpenCluster) (changes : List Change)
     → EventRun old events outcomes new → (Rose old.faults new.faults → ⊥) → old.stage ≡ opened cluster → holds cluster changes

@@ -5,6 +5,8 @@ use Rattle.std.proofs.lemmas.List.{append-nil}
 use Rattle.fault_count.specs.Rose.{Rose}
 use Rattle.cache_key.specs.declared.request.Request.{Request}
 use Rattle.cache_model.specs.Change.{Change}
+use Rattle.cache_key.specs.declared.request.Reply.{Reply}
+use Rattle.cache_model.specs.Parts.{parts_of}
 use Rattle.cache_model.specs.Reply.{changes_asked}
 use Rattle.script_lines.specs.declared.command.Command.{Command}
 use Rattle.script_lines.specs.declared.command.Command.TheVariants.{Create, Recover, Stop, Dump, Steps}
@@ -14,9 +16,10 @@ use Rattle.script_lines.specs.declared.answer.Answer.{Answer}
 use Rattle.script_lines.specs.declared.answer.Outcome.{Outcome}
 use Rattle.script_lines.specs.declared.answer.Outcome.TheVariants.{Replied, Refused}
 use Rattle.script_lines.specs.declared.answer.Refusal.{Refusal}
-use Rattle.cluster_commands.specs.State.{OpenCluster, KnownFiles, unknown, no_store, store_in, Stage, closed, opened, failing, files_at, State, EventChange, EventRun, OpenStep, ClosedStep, StageStep, IsAsKnown}
+use Rattle.cluster_commands.specs.State.{OpenCluster, KnownFiles, unknown, no_store, store_in, Stage, closed, opened, failing, files_at, State, partition_count, CallChange, GoesOn, PartsChange, EventChange, EventRun, OpenStep, ClosedStep, StageStep, IsAsKnown}
 use Rattle.answer_laws.specs.Run.{Run}
-use Rattle.answer_laws.specs.AnswersAllow.{RefusedKeeps, EventKeeps, EventsKeep, CommandLeaves, AnswersLeave, MayHave}
+use Rattle.answer_laws.specs.Answered.{changes_in_parts}
+use Rattle.answer_laws.specs.AnswersAllow.{RefusedKeeps, StopsAtPart, PartsKeep, EventKeeps, EventsKeep, CommandLeaves, AnswersLeave, MayHave}
 
 -- ---- events
 
@@ -38,19 +41,71 @@ nothing_kept old new after AreKept same keeps shows = (after, [], shows_as new o
 only : (held after : List Change) → (after ≡ held) ⊎ (after ≡ held ++ []) → after ≡ held
 only held after shows = ⊎_elim (λ same. same) (λ same. same ∙ append-nil held) shows
 
-event_kept : (old : Stage) (event : Event) (outcome : Outcome) (new : Stage) (fault : Type 0) (after : List Change) → EventChange old event outcome new fault → Shows new after
-    → Keeps old after (EventKeeps event outcome)
-event_kept (closed files) (Call request) outcome new fault after step shows = absurd step
-event_kept (opened cluster) (Call request) (Replied reply) new fault after step shows =
+-- of a request that came to this outcome, these changes are kept
+abbrev CallKeeps : Request → Outcome → List Change → Type 0
+CallKeeps request (Replied reply) kept = kept ≡ changes_asked request
+CallKeeps request (Refused refusal) kept = RefusedKeeps refusal (changes_asked request) kept
+
+call_kept : (old : Stage) (request : Request) (outcome : Outcome) (new : Stage) (fault : Type 0) (after : List Change) → CallChange old request outcome new fault → Shows new after
+    → Keeps old after (CallKeeps request outcome)
+call_kept (closed files) request outcome new fault after step shows = absurd step
+call_kept (opened cluster) request (Replied reply) new fault after step shows =
     (cluster.changes, changes_asked request, inl refl, refl, only _ after (shows_as new _ after step.1 shows))
-event_kept (opened cluster) (Call request) (Refused refusal) new fault after step shows =
+call_kept (opened cluster) request (Refused refusal) new fault after step shows =
     ⊎_elim
     (λ same. (cluster.changes, [], inl refl, subst (λ (r : Refusal). RefusedKeeps r (changes_asked request) []) (sym step.0) (inl refl), same ∙ sym (append-nil cluster.changes)))
     (λ more. (cluster.changes, changes_asked request, inl refl, subst (λ (r : Refusal). RefusedKeeps r (changes_asked request) (changes_asked request)) (sym step.0) (inr refl), more))
     (shows_as new _ after step.3 shows)
-event_kept (failing cluster flight) (Call request) (Replied reply) new fault after step shows = nothing_kept (failing cluster flight) new after _ step.2 (sym step.1) shows
-event_kept (failing cluster flight) (Call request) (Refused refusal) new fault after step shows =
+call_kept (failing cluster flight) request (Replied reply) new fault after step shows = nothing_kept (failing cluster flight) new after _ step.2 (sym step.1) shows
+call_kept (failing cluster flight) request (Refused refusal) new fault after step shows =
     nothing_kept (failing cluster flight) new after _ step.2 (subst (λ (r : Refusal). RefusedKeeps r (changes_asked request) []) (sym step.0) refl) shows
+
+-- one part more was done before
+part_before : (part : ℕ × Request) (parts : List (ℕ × Request)) (outcome : Outcome) (kept : List Change) → PartsKeep parts outcome kept → PartsKeep (part ∷ parts) outcome (changes_asked part.1 ++ kept)
+part_before part parts (Replied reply) kept keeps = ap (λ (cs : List Change). changes_asked part.1 ++ cs) keeps
+part_before part parts (Refused refusal) kept keeps = record {
+  done = part ∷ keeps.done;
+  part = keeps.part;
+  rest = keeps.rest;
+  whole = ap (λ (ps : List (ℕ × Request)). part ∷ ps) keeps.whole;
+  of_it = keeps.of_it;
+  may = keeps.may;
+  kept_is = ap (λ (cs : List Change). changes_asked part.1 ++ cs) keeps.kept_is ∙ sym (append_assoc (changes_asked part.1) (changes_in_parts keeps.done) keeps.of_it);
+}
+
+-- a part was done, and the others went on
+part_kept : (old mid : Stage) (part : ℕ × Request) (parts : List (ℕ × Request)) (found outcome : Outcome) (new : Stage) (fault : Type 0) (after : List Change) (Next : Reply → Type 0)
+    → CallChange old part.1 found mid fault → GoesOn found mid outcome new Next → Shows new after → ((reply : Reply) → Next reply → Keeps mid after (PartsKeep parts outcome))
+    → Keeps old after (PartsKeep (part ∷ parts) outcome)
+part_kept old mid part parts (Replied reply) outcome new fault after Next step next shows goes =
+    let later = goes reply next in
+    let here = call_kept old part.1 (Replied reply) mid fault later.0 step later.2 in (
+      here.0,
+      changes_asked part.1 ++ later.1,
+      here.2,
+      part_before part parts outcome later.1 later.3,
+      later.4 ∙ ap (λ (cs : List Change). cs ++ later.1) (here.4 ∙ ap (λ (cs : List Change). here.0 ++ cs) here.3) ∙ append_assoc here.0 (changes_asked part.1) later.1,
+    )
+part_kept old mid part parts (Refused refusal) outcome new fault after Next step next shows goes =
+    let here = call_kept old part.1 (Refused refusal) mid fault after step (shows_as new mid after next.1 shows) in (
+      here.0,
+      here.1,
+      here.2,
+      subst (λ (o : Outcome). PartsKeep (part ∷ parts) o here.1) (sym next.0) (record { done = []; part = part; rest = parts; whole = refl; of_it = here.1; may = here.3; kept_is = refl }),
+      here.4,
+    )
+
+parts_kept : (old : Stage) (request : Request) (parts : List (ℕ × Request)) (replies : List Reply) (outcome : Outcome) (new : Stage) (fault : Type 0) (after : List Change)
+    → PartsChange old request parts replies outcome new fault → Shows new after → Keeps old after (PartsKeep parts outcome)
+parts_kept old request [] replies outcome new fault after step shows =
+    nothing_kept old new after (PartsKeep [] outcome) step.1 (subst (λ (o : Outcome). PartsKeep [] o []) (sym step.0) refl) shows
+parts_kept old request (part ∷ parts) replies outcome new fault after step shows =
+    part_kept old step.1 part parts step.0 outcome new fault after _ step.2 step.3 shows
+    (λ reply next. parts_kept step.1 request parts (replies ++ reply ∷ []) outcome new fault after next shows)
+
+event_kept : (old : Stage) (event : Event) (outcome : Outcome) (new : Stage) (fault : Type 0) (after : List Change) → EventChange old event outcome new fault → Shows new after
+    → Keeps old after (EventKeeps event outcome)
+event_kept old (Call request) outcome new fault after step shows = parts_kept old request (parts_of partition_count request) [] outcome new fault after step shows
 
 events_kept : (old : State) (events : List Event) (outcomes : List Outcome) (new : State) (after : List Change) → EventRun old events outcomes new → Shows new.stage after
     → Keeps old.stage after (EventsKeep events outcomes)

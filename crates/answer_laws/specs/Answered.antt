@@ -1,6 +1,8 @@
 -- The changes that a run was asked for and that were answered.
-use Rattle.std.specs.Prelude.{◌⊎◌, List, [], ◌∷◌, ◌++◌}
+use Rattle.std.specs.Prelude.{◌⊎◌, ℕ, List, [], ◌∷◌, ◌++◌}
 use Rattle.cache_model.specs.Change.{Change}
+use Rattle.cache_key.specs.declared.request.Request.{Request}
+use Rattle.cache_model.specs.Parts.{parts_of}
 use Rattle.cache_model.specs.Reply.{changes_asked}
 use Rattle.script_lines.specs.declared.command.Command.{Command}
 use Rattle.script_lines.specs.declared.command.Command.TheVariants.{Create, Recover, Stop, Dump, Steps}
@@ -10,10 +12,16 @@ use Rattle.script_lines.specs.declared.answer.Answer.{Answer}
 use Rattle.script_lines.specs.declared.answer.Answer.TheVariants as answered
 use Rattle.script_lines.specs.declared.answer.Outcome.{Outcome}
 use Rattle.script_lines.specs.declared.answer.Outcome.TheVariants.{Replied, Refused}
+use Rattle.cluster_commands.specs.State.{partition_count}
+
+-- what the parts of a request change, one after the other
+abbrev pub changes_in_parts : List (ℕ × Request) → List Change
+changes_in_parts [] = []
+changes_in_parts (part ∷ parts) = changes_asked part.1 ++ changes_in_parts parts
 
 -- the changes of an event, none where it was refused
 abbrev pub change_done : Event → Outcome → List Change
-change_done (Call request) (Replied reply) = changes_asked request
+change_done (Call request) (Replied reply) = changes_in_parts (parts_of partition_count request)
 change_done (Call request) (Refused refusal) = []
 
 abbrev pub changes_done : List Event → List Outcome → List Change

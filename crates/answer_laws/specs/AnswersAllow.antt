@@ -1,6 +1,8 @@
 -- Which changes the answers of a run allow the partition's store to have.
-use Rattle.std.specs.Prelude.{⊤, ◌≡◌, ◌⊎◌, List, [], ◌∷◌, ◌++◌}
+use Rattle.std.specs.Prelude.{⊤, ◌≡◌, ◌⊎◌, ℕ, List, [], ◌∷◌, ◌++◌}
 use Rattle.cache_model.specs.Change.{Change}
+use Rattle.cache_key.specs.declared.request.Request.{Request}
+use Rattle.cache_model.specs.Parts.{parts_of}
 use Rattle.cache_model.specs.Reply.{changes_asked}
 use Rattle.script_lines.specs.declared.command.Command.{Command}
 use Rattle.script_lines.specs.declared.command.Command.TheVariants.{Create, Recover, Stop, Dump, Steps}
@@ -12,8 +14,8 @@ use Rattle.script_lines.specs.declared.answer.Outcome.{Outcome}
 use Rattle.script_lines.specs.declared.answer.Outcome.TheVariants.{Replied, Refused}
 use Rattle.script_lines.specs.declared.answer.Refusal.{Refusal}
 use Rattle.script_lines.specs.declared.answer.Refusal.TheVariants.{Closed, Open, NotMember, NotCreated, Fault, Damaged}
-use Rattle.answer_laws.specs.Answered.{events_of}
-use Rattle.cluster_commands.specs.State.{KnownFiles, unknown, no_store, store_in}
+use Rattle.answer_laws.specs.Answered.{changes_in_parts, events_of}
+use Rattle.cluster_commands.specs.State.{KnownFiles, unknown, no_store, store_in, partition_count}
 
 -- Changes that are refused aren't kept; those under which the disk failed may be, all of them or none.
 abbrev pub RefusedKeeps : Refusal → List Change → List Change → Type 0
@@ -24,10 +26,25 @@ RefusedKeeps NotCreated asked kept = kept ≡ []
 RefusedKeeps (Fault host) asked kept = (kept ≡ []) ⊎ (kept ≡ asked)
 RefusedKeeps (Damaged host partition file at) asked kept = kept ≡ []
 
+-- Of parts of which one was refused, the changes of those before it are kept, of that one as the refusal allows, and of
+-- those after it none.
+pub record StopsAtPart (refusal : Refusal) (parts : List (ℕ × Request)) (kept : List Change) : Type 0 where
+  pub done : List (ℕ × Request)
+  pub part : ℕ × Request
+  pub rest : List (ℕ × Request)
+  pub whole : parts ≡ done ++ part ∷ rest
+  pub of_it : List Change
+  pub may : RefusedKeeps refusal (changes_asked part.1) of_it
+  pub kept_is : kept ≡ changes_in_parts done ++ of_it
+
+-- of the parts of a request that came to this outcome, these changes are kept
+abbrev pub PartsKeep : List (ℕ × Request) → Outcome → List Change → Type 0
+PartsKeep parts (Replied reply) kept = kept ≡ changes_in_parts parts
+PartsKeep parts (Refused refusal) kept = StopsAtPart refusal parts kept
+
 -- of an event that came to this outcome, these changes are kept
 abbrev pub EventKeeps : Event → Outcome → List Change → Type 0
-EventKeeps (Call request) (Replied reply) kept = kept ≡ changes_asked request
-EventKeeps (Call request) (Refused refusal) kept = RefusedKeeps refusal (changes_asked request) kept
+EventKeeps (Call request) outcome kept = PartsKeep (parts_of partition_count request) outcome kept
 
 -- of these events, one after the other
 abbrev pub EventsKeep : List Event → List Outcome → List Change → Type 0

@@ -51,6 +51,14 @@ impl<'a> Cursor<'a> {
         self.text[self.offset..].is_empty()
     }
 
+    /// What is left of the text. The cursor stays where it is.
+    pub fn rest(&self) -> &'a [u8]
+        ensures rest { result.now ≡ rest_of self.now }
+        ensures fits { length self.now.text < 2 ^ 63 }
+    {
+        &self.text[self.offset..]
+    }
+
     /// Reads a number of one byte.
     pub fn u8(&mut self) -> Result<u8, Short>
         ensures ok { IsOk result ↔ (1 ≤ length (rest_of self.old)) }
@@ -107,6 +115,22 @@ impl<'a> Cursor<'a> {
         self.number(8)
     }
 
+    /// Reads a number of so many bytes, the highest first.
+    pub fn number(&mut self, size: usize) -> Result<u64, Short>
+        requires { size ≤ 8 }
+        ensures ok { IsOk result ↔ (size ≤ length (rest_of self.old)) }
+        ensures text { IfOk result (λ number.
+            (number < 256 ^ size) × Passes self.old self.new (bytes_of size number)) }
+        ensures value { (number : ℕ) (after : List ℕ) → number < 256 ^ size
+            → rest_of self.old ≡ bytes_of size number ++ after
+            → (result ≡ Ok number) × (rest_of self.new ≡ after) }
+        ensures fault_at { IfErr result (λ short. short.at ≡ length self.old.text) }
+        ensures unchanged { OnErr result (self.new ≡ self.old) }
+    {
+        let bytes = self.pass(size)?;
+        Ok(number_of(bytes))
+    }
+
     /// Reads a length of one byte and so many bytes, and answers these.
     pub fn counted8(&mut self) -> Result<&'a [u8], Short>
         ensures ok { IsOk result
@@ -152,20 +176,22 @@ impl<'a> Cursor<'a> {
         self.counted(4)
     }
 
-    /// Reads a number of so many bytes.
-    fn number(&mut self, size: usize) -> Result<u64, Short>
-        requires { size ≤ 8 }
-        ensures ok { IsOk result ↔ (size ≤ length (rest_of self.old)) }
-        ensures text { IfOk result (λ number.
-            (number < 256 ^ size) × Passes self.old self.new (bytes_of size number)) }
-        ensures value { (number : ℕ) (after : List ℕ) → number < 256 ^ size
-            → rest_of self.old ≡ bytes_of size number ++ after
-            → (result ≡ Ok number) × (rest_of self.new ≡ after) }
+    /// Passes so many bytes, and answers them.
+    pub fn pass(&mut self, count: usize) -> Result<&'a [u8], Short>
+        ensures ok { IsOk result ↔ (count ≤ length (rest_of self.old)) }
+        ensures text { IfOk result (λ bytes. Passes self.old self.new bytes.now) }
+        ensures size { IfOk result (λ bytes. length bytes.now ≡ count) }
         ensures fault_at { IfErr result (λ short. short.at ≡ length self.old.text) }
         ensures unchanged { OnErr result (self.new ≡ self.old) }
     {
-        let bytes = self.pass(size)?;
-        Ok(number_of(bytes))
+        let rest = &self.text[self.offset..];
+        if rest.len() < count {
+            return Err(Short {
+                at: self.text.len() as u64,
+            });
+        }
+        self.offset += count;
+        Ok(&rest[..count])
     }
 
     /// Reads a length of so many bytes and as many bytes as it says.
@@ -198,23 +224,5 @@ impl<'a> Cursor<'a> {
             text: self.text,
             offset: self.offset,
         }
-    }
-
-    /// Passes so many bytes, and answers them.
-    fn pass(&mut self, count: usize) -> Result<&'a [u8], Short>
-        ensures ok { IsOk result ↔ (count ≤ length (rest_of self.old)) }
-        ensures text { IfOk result (λ bytes. Passes self.old self.new bytes.now) }
-        ensures size { IfOk result (λ bytes. length bytes.now ≡ count) }
-        ensures fault_at { IfErr result (λ short. short.at ≡ length self.old.text) }
-        ensures unchanged { OnErr result (self.new ≡ self.old) }
-    {
-        let rest = &self.text[self.offset..];
-        if rest.len() < count {
-            return Err(Short {
-                at: self.text.len() as u64,
-            });
-        }
-        self.offset += count;
-        Ok(&rest[..count])
     }
 }

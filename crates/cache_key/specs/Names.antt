@@ -1,4 +1,4 @@
--- The limits of names, keys and values, over their bytes.
+-- The limits of names, keys, values and lists of pairs, over their bytes.
 use Rattle.std.specs.Prelude.{◌≡◌, ℕ, ◌<◌, ◌≤◌, ◌==◌, nat_le, Bool, false, ◌&&◌, ◌||◌, IsTrue, List, length, slice_index, All}
 use Rattle.std.specs.Str.{IsUtf8}
 
@@ -13,6 +13,10 @@ most_key_bytes = 1024
 -- the most bytes of a value
 abbrev pub most_value_bytes : ℕ
 most_value_bytes = 65536
+
+-- the most pairs of a list
+abbrev pub most_pairs : ℕ
+most_pairs = 64
 
 -- the byte is one from the first to the last
 abbrev pub is_between : ℕ → ℕ → ℕ → Bool
@@ -42,6 +46,10 @@ pub record IsKey (bytes : List ℕ) : Type 0 where
 pub record IsValue (bytes : List ℕ) : Type 0 where
   pub most : length bytes ≤ most_value_bytes
   pub utf8 : IsUtf8 bytes
+
+-- a key and its value
+abbrev pub IsPair : List ℕ × List ℕ → Type 0
+IsPair pair = IsKey pair.0 × IsValue pair.1
 
 -- the first byte outside the alphabet of names stands at this offset, from 0
 pub record IsFirstBadByte (bytes : List ℕ) (at : ℕ) : Type 0 where

@@ -1,4 +1,4 @@
-//! The faults of a text.
+//! The faults of a text, and of a list of pairs.
 ghost use Rattle.std.specs.Prelude.{◌≡◌};
 ghost use Rattle.cache_key.specs.declared.fault.NameFault.TheVariants.{NoMemory};
 
@@ -23,4 +23,13 @@ impl From<AllocError> for NameFault {
     fn from(_: AllocError) -> Self {
         NameFault::NoMemory
     }
+}
+
+/// Why a pair isn't added.
+#[derive(Clone, Copy, Debug, PartialEq, Eq)]
+pub enum PairsFault {
+    /// There are 64 pairs.
+    Full,
+    /// There was no memory.
+    NoMemory,
 }

@@ -3,6 +3,7 @@ ghost use Rattle.std.specs.Prelude.{◌≡◌, IfOk};
 
 use crate::keys::{Key, Value};
 use crate::names::CacheName;
+use crate::pairs::Pairs;
 use std::alloc::AllocError;
 
 /// A key with its cache. The order is by cache, then by key.
@@ -19,6 +20,18 @@ pub enum Request {
     Get(CacheName, Key),
     /// Writes the value, and asks for the previous one.
     Put(CacheName, Key, Value),
+    /// Removes the value at the key, and asks for it.
+    Remove(CacheName, Key),
+    /// Makes the cache present.
+    Ensure(CacheName),
+    /// Removes every value of the cache.
+    Truncate(CacheName),
+    /// Makes the cache absent, with its values.
+    Destroy(CacheName),
+    /// Writes each pair. Of pairs with one key the last stays.
+    PutAll(CacheName, Pairs),
+    /// Asks how many keys of the cache have a value.
+    Size(CacheName),
 }
 
 /// A change of one cache.
@@ -26,6 +39,16 @@ pub enum Request {
 pub enum Mutation {
     /// Writes the value at the key.
     Put(CacheName, Key, Value),
+    /// Removes the value at the key.
+    Remove(CacheName, Key),
+    /// Makes the cache present.
+    Ensure(CacheName),
+    /// Removes every value of the cache.
+    Truncate(CacheName),
+    /// Makes the cache absent, with its values.
+    Destroy(CacheName),
+    /// Writes each pair. Of pairs with one key the last stays.
+    Batch(CacheName, Pairs),
 }
 
 /// The reply to a request.
@@ -60,6 +83,12 @@ impl Request {
             Request::Put(cache, key, value) => {
                 Ok(Request::Put(cache.copy()?, key.copy()?, value.copy()?))
             }
+            Request::Remove(cache, key) => Ok(Request::Remove(cache.copy()?, key.copy()?)),
+            Request::Ensure(cache) => Ok(Request::Ensure(cache.copy()?)),
+            Request::Truncate(cache) => Ok(Request::Truncate(cache.copy()?)),
+            Request::Destroy(cache) => Ok(Request::Destroy(cache.copy()?)),
+            Request::PutAll(cache, pairs) => Ok(Request::PutAll(cache.copy()?, pairs.copy()?)),
+            Request::Size(cache) => Ok(Request::Size(cache.copy()?)),
         }
     }
 }
@@ -73,6 +102,11 @@ impl Mutation {
             Mutation::Put(cache, key, value) => {
                 Ok(Mutation::Put(cache.copy()?, key.copy()?, value.copy()?))
             }
+            Mutation::Remove(cache, key) => Ok(Mutation::Remove(cache.copy()?, key.copy()?)),
+            Mutation::Ensure(cache) => Ok(Mutation::Ensure(cache.copy()?)),
+            Mutation::Truncate(cache) => Ok(Mutation::Truncate(cache.copy()?)),
+            Mutation::Destroy(cache) => Ok(Mutation::Destroy(cache.copy()?)),
+            Mutation::Batch(cache, pairs) => Ok(Mutation::Batch(cache.copy()?, pairs.copy()?)),
         }
     }
 }

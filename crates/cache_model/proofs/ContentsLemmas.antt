@@ -3,15 +3,28 @@ use Rattle.std.proofs.Common.{◌≡◌, ℕ, List, [], ◌∷◌, ◌++◌, Boo
 use Rattle.std.specs.Cmp.Lexicographic.{bytes_decides}
 use Rattle.std.proofs.lemmas.List.{reverse-append}
 use Rattle.cache_model.specs.Caches.{same, Caches}
-use Rattle.cache_model.specs.Change.{Change, put, writes, value_left}
-use Rattle.cache_model.specs.Contents.{value_looking_back, value_after, SameContents, AreContentsAfter}
+use Rattle.cache_model.specs.Change.{Change, put, writes, value_left, rules, presence_left}
+use Rattle.cache_model.specs.Contents.{value_looking_back, value_after, presence_looking_back, is_present_after, SameContents, AreContentsAfter}
+use Rattle.cache_model.specs.Step.{IsChangedBy}
 use Rattle.cache_model.proofs.ListLemmas.{same_caches}
 
 -- of one change more: it decides, or the others do
 value_after-push : (changes : List Change) (newest : Change) (cache key : List ℕ) → value_after (changes ++ newest ∷ []) cache key ≡ (if writes newest cache key then value_left newest cache key else value_after changes cache key)
 value_after-push changes newest cache key = ap (λ back. value_looking_back back cache key) (reverse-append changes (newest ∷ []))
 
-same-itself : (text : List ℕ) → same text text ≡ true
+presence_after-push : (changes : List Change) (newest : Change) (cache : List ℕ) → is_present_after (changes ++ newest ∷ []) cache ≡ (if rules newest cache then presence_left newest cache else is_present_after changes cache)
+presence_after-push changes newest cache = ap (λ back. presence_looking_back back cache) (reverse-append changes (newest ∷ []))
+
+-- the contents after one change more are those before it, changed
+pub IsChangedBy-from_contents : (changes : List Change) (newest : Change) (before after : Caches) → AreContentsAfter changes before → AreContentsAfter (changes ++ newest ∷ []) after → IsChangedBy newest before after
+IsChangedBy-from_contents changes newest before after were are = record {
+  names_rise = λ _. are.names_rise;
+  keys_rise = λ _. are.keys_rise;
+  presence = λ c. are.presence c ∙ presence_after-push changes newest c ∙ ap (cond (rules newest c) (presence_left newest c)) (sym (were.presence c));
+  values = λ c k. are.values c k ∙ value_after-push changes newest c k ∙ ap (cond (writes newest c k) (value_left newest c k)) (sym (were.values c k));
+}
+
+pub same-itself : (text : List ℕ) → same text text ≡ true
 same-itself text = (bytes_decides text text).1 refl
 
 pub value_after-put : (changes : List Change) (cache key value : List ℕ) → value_after (changes ++ put cache key value ∷ []) cache key ≡ Some value

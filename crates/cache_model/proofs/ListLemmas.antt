@@ -11,7 +11,7 @@ use Rattle.std.proofs.lemmas.Bool.{false≢true}
 use Rattle.std.proofs.lemmas.Map.Keys.{sorted_head, sorted_tail}
 use Rattle.std.proofs.lemmas.Map.Lookups.{exact_bytes}
 use Rattle.cache_model.specs.Caches.{same, Pairs, Caches}
-use Rattle.cache_model.specs.Contents.{IsRising}
+use Rattle.cache_model.specs.Contents.{IsRising, NamesRise, KeysRise}
 
 lookup-find : {X : Type 0} (text : List ℕ) (entries : List (List ℕ × X)) → lookup (same text) entries ≡ find (slice_cmp nat_cmp) text entries
 lookup-find text [] = refl
@@ -32,22 +32,22 @@ same_from_lookups entries others rise others_rise alike =
     same_entries (slice_cmp nat_cmp) nat_list_cmp_total exact_bytes entries others (passes _ (is_sorted-from entries rise)) (passes _ (is_sorted-from others others_rise)) (λ text. sym (lookup-find text entries) ∙ alike text ∙ lookup-find text others)
 
 -- the keys of a cache rise, if it is there
-abbrev KeysRise : Option Pairs → Type 0
-KeysRise None = Unit {0}
-KeysRise (Some pairs) = IsRising (map (λ p. p.0) pairs)
+abbrev pub KeysRiseHere : Option Pairs → Type 0
+KeysRiseHere None = Unit {0}
+KeysRiseHere (Some pairs) = IsRising (map (λ p. p.0) pairs)
 
-KeysRise-lookup : (cache : List ℕ) (caches : Caches) → AllByRecursion (λ c. IsRising (map (λ p. p.0) c.1)) caches → KeysRise (lookup (same cache) caches)
+pub KeysRise-lookup : (cache : List ℕ) (caches : Caches) → KeysRise caches → KeysRiseHere (lookup (same cache) caches)
 KeysRise-lookup cache [] rise = tt
 KeysRise-lookup cache (c ∷ cs) rise =
-    elim (same cache c.0) as (λ b. KeysRise (cond b (Some c.1) (lookup (same cache) cs))) [ true ↦ rise.0 | false ↦ KeysRise-lookup cache cs rise.1 ]
+    elim (same cache c.0) as (λ b. KeysRiseHere (cond b (Some c.1) (lookup (same cache) cs))) [ true ↦ rise.0 | false ↦ KeysRise-lookup cache cs rise.1 ]
 
-same_pairs : (here there : Option Pairs) → KeysRise here → KeysRise there → is_some here ≡ is_some there → ((key : List ℕ) → option_and_then (lookup (same key)) here ≡ option_and_then (lookup (same key)) there) → here ≡ there
+pub same_pairs : (here there : Option Pairs) → KeysRiseHere here → KeysRiseHere there → is_some here ≡ is_some there → ((key : List ℕ) → option_and_then (lookup (same key)) here ≡ option_and_then (lookup (same key)) there) → here ≡ there
 same_pairs None None rise others_rise present alike = refl
 same_pairs None (Some q) rise others_rise present alike = absurd (false≢true present)
 same_pairs (Some p) None rise others_rise present alike = absurd (false≢true (sym present))
 same_pairs (Some p) (Some q) rise others_rise present alike = ap Some (same_from_lookups p q rise others_rise alike)
 
 -- two lists of caches with the same presences and values are one list
-pub same_caches : (caches others : Caches) → IsRising (map (λ c. c.0) caches) → IsRising (map (λ c. c.0) others) → AllByRecursion (λ c. IsRising (map (λ p. p.0) c.1)) caches → AllByRecursion (λ c. IsRising (map (λ p. p.0) c.1)) others → ((cache : List ℕ) → is_some (lookup (same cache) caches) ≡ is_some (lookup (same cache) others)) → ((cache key : List ℕ) → option_and_then (lookup (same key)) (lookup (same cache) caches) ≡ option_and_then (lookup (same key)) (lookup (same cache) others)) → caches ≡ others
+pub same_caches : (caches others : Caches) → NamesRise caches → NamesRise others → KeysRise caches → KeysRise others → ((cache : List ℕ) → is_some (lookup (same cache) caches) ≡ is_some (lookup (same cache) others)) → ((cache key : List ℕ) → option_and_then (lookup (same key)) (lookup (same cache) caches) ≡ option_and_then (lookup (same key)) (lookup (same cache) others)) → caches ≡ others
 same_caches caches others names others_names keys others_keys present alike =
     same_from_lookups caches others names others_names (λ cache. same_pairs (lookup (same cache) caches) (lookup (same cache) others) (KeysRise-lookup cache caches keys) (KeysRise-lookup cache others others_keys) (present cache) (alike cache))

@@ -1,17 +1,16 @@
--- Laws of specs/Shown.antt, and of a put into a map of maps.
-use Rattle.std.proofs.Common.{◌≡◌, ℕ, List, [], ◌∷◌, map, Bool, true, false, cond, ◌&&◌, Option, Some, None, option_map, option_and_then, is_some, unwrap_or, ap, ◌∙◌, sym, refl, subst}
+-- Laws of specs/Shown.antt, and of a map of maps in which one cache is replaced.
+use Rattle.std.proofs.Common.{◌≡◌, ℕ, List, [], ◌∷◌, map, Bool, true, false, cond, Option, Some, None, option_map, is_some, unwrap_or, ap, ◌∙◌, sym, refl, subst}
 use Rattle.std.specs.declared.cmp.Ordering.TheVariants.{Less, Equal, Greater}
 use Rattle.std.specs.Ordering.{nat_cmp, match_ordering}
-use Rattle.std.specs.Cmp.Lexicographic.{slice_cmp, texts_ties, bytes_decides}
+use Rattle.std.specs.Cmp.Lexicographic.{slice_cmp, texts_ties}
 use Rattle.std.specs.Map.{lookup, remove_entry}
-use Rattle.std.specs.List.{AllByRecursion}
-use Rattle.std.specs.BTreeMap.{BTreeMap, get, is_at, insert_entry, IsOrdered, UpdatesBy, Updates}
+use Rattle.std.specs.BTreeMap.{BTreeMap, get, is_at, insert_entry, IsOrdered, UpdatesBy}
 use Rattle.std.proofs.lemmas.Map.Made.{lookup-map_values, keys_of-map_values}
-use Rattle.cache_model.specs.Caches.{same, value_in}
-use Rattle.cache_model.specs.Change.{put}
-use Rattle.cache_model.specs.Contents.{IsRising}
+use Rattle.cache_model.specs.Caches.{same, Pairs}
+use Rattle.cache_model.specs.Contents.{IsRising, KeysRise}
 use Rattle.cache_model.specs.Shown.{caches_shown}
-use Rattle.cache_model.specs.Step.{IsChangedBy}
+use Rattle.cache_model.specs.Step.{IsReplaced}
+use Rattle.cache_model.proofs.StepLemmas.{found}
 
 abbrev PairMap : Type 0
 PairMap = BTreeMap (List ℕ) (List ℕ)
@@ -30,105 +29,92 @@ same-is_at text = λ i other. texts_ties text other i
 at-lookup : {X : Type 0} (m : BTreeMap (List ℕ) X) (text : List ℕ) → at m text ≡ lookup (same text) m.entries
 at-lookup m text = ap (λ test. lookup test m.entries) (sym (same-is_at text))
 
-option_and_then-option_map : {A B C : Type 0} (f : B → Option C) (g : A → B) (o : Option A) → option_and_then f (option_map g o) ≡ option_and_then (λ x. f (g x)) o
-option_and_then-option_map f g None = refl
-option_and_then-option_map f g (Some x) = refl
-
-is_some-option_map : {A B : Type 0} (g : A → B) (o : Option A) → is_some (option_map g o) ≡ is_some o
-is_some-option_map g None = refl
-is_some-option_map g (Some x) = refl
-
-lookup-caches_shown : (m : CacheMap) (cache : List ℕ) → lookup (same cache) (caches_shown m) ≡ option_map (λ (n : PairMap). n.entries) (at m cache)
+-- the pairs of a cache that is shown
+pub lookup-caches_shown : (m : CacheMap) (cache : List ℕ) → lookup (same cache) (caches_shown m) ≡ option_map (λ (n : PairMap). n.entries) (at m cache)
 lookup-caches_shown m cache =
     lookup-map_values (λ (n : PairMap). n.entries) (same cache) m.entries
     ∙ ap (option_map (λ (n : PairMap). n.entries)) (sym (at-lookup m cache))
 
+is_some-option_map : {A B : Type 0} (f : A → B) (o : Option A) → is_some (option_map f o) ≡ is_some o
+is_some-option_map f None = refl
+is_some-option_map f (Some x) = refl
+
 pub presence-caches_shown : (m : CacheMap) (cache : List ℕ) → is_some (lookup (same cache) (caches_shown m)) ≡ is_some (at m cache)
 presence-caches_shown m cache = ap is_some (lookup-caches_shown m cache) ∙ is_some-option_map (λ (n : PairMap). n.entries) (at m cache)
 
-pub value_in-caches_shown : (m : CacheMap) (cache key : List ℕ) → value_in (caches_shown m) cache key ≡ option_and_then (λ (n : PairMap). lookup (same key) n.entries) (at m cache)
-value_in-caches_shown m cache key =
-    ap (option_and_then (lookup (same key))) (lookup-caches_shown m cache)
-    ∙ option_and_then-option_map (lookup (same key)) (λ (n : PairMap). n.entries) (at m cache)
+-- ---- the order of keys in each cache, through the steps of a change
 
--- ---- the order of keys in each cache, through the steps of a put
+abbrev KeysRiseIn : List (List ℕ × PairMap) → Type 0
+KeysRiseIn entries = KeysRise (map (λ (e : List ℕ × PairMap). (e.0, e.1.entries)) entries)
 
-abbrev KeysRise : List (List ℕ × PairMap) → Type 0
-KeysRise entries = AllByRecursion (λ (c : List ℕ × List (List ℕ × List ℕ)). IsRising (map (λ p. p.0) c.1)) (map (λ (e : List ℕ × PairMap). (e.0, e.1.entries)) entries)
-
-KeysRise-remove_entry : (test : List ℕ → Bool) (entries : List (List ℕ × PairMap)) → KeysRise entries → KeysRise (remove_entry test entries)
+KeysRise-remove_entry : (test : List ℕ → Bool) (entries : List (List ℕ × PairMap)) → KeysRiseIn entries → KeysRiseIn (remove_entry test entries)
 KeysRise-remove_entry test [] rise = rise
 KeysRise-remove_entry test (e ∷ es) rise =
-    elim (test e.0) as (λ b. KeysRise (cond b es (e ∷ remove_entry test es))) [
+    elim (test e.0) as (λ b. KeysRiseIn (cond b es (e ∷ remove_entry test es))) [
       | true ↦ rise.1
       | false ↦ (rise.0, KeysRise-remove_entry test es rise.1)
     ]
 
-KeysRise-insert_entry : (entries : List (List ℕ × PairMap)) (cache : List ℕ) (pairs : PairMap) → IsRising (map (λ p. p.0) pairs.entries) → KeysRise entries → KeysRise (insert_entry (slice_cmp nat_cmp) entries cache pairs)
+KeysRise-insert_entry : (entries : List (List ℕ × PairMap)) (cache : List ℕ) (pairs : PairMap) → IsRising (map (λ p. p.0) pairs.entries) → KeysRiseIn entries → KeysRiseIn (insert_entry (slice_cmp nat_cmp) entries cache pairs)
 KeysRise-insert_entry [] cache pairs rises rise = (rises, rise)
 KeysRise-insert_entry (e ∷ es) cache pairs rises rise =
-    elim (slice_cmp nat_cmp cache e.0) as (λ o. KeysRise (match_ordering o ((cache, pairs) ∷ e ∷ es) ((e.0, pairs) ∷ es) (e ∷ insert_entry (slice_cmp nat_cmp) es cache pairs))) [
+    elim (slice_cmp nat_cmp cache e.0) as (λ o. KeysRiseIn (match_ordering o ((cache, pairs) ∷ e ∷ es) ((e.0, pairs) ∷ es) (e ∷ insert_entry (slice_cmp nat_cmp) es cache pairs))) [
       | Less ↦ (rises, rise)
       | Equal ↦ (rises, rise.1)
       | Greater ↦ (rise.0, KeysRise-insert_entry es cache pairs rises rise.1)
     ]
 
--- ---- a put: the cache's pairs are taken out, or made, and go back with one pair more
+-- ---- one cache is replaced
 
--- the steps of a put
-pub record PutSteps (cache key value : List ℕ) (old taken new : CacheMap) (none before after : PairMap) : Type 0 where
-  pub removed : taken.entries ≡ remove_entry (is_at (slice_cmp nat_cmp cache)) old.entries
-  pub removes : UpdatesBy (slice_cmp nat_cmp) (slice_cmp nat_cmp cache) old taken None
-  pub empty : none.entries ≡ []
-  pub pairs : before ≡ unwrap_or (at old cache) none
-  pub puts : Updates (slice_cmp nat_cmp) before after key (Some value)
-  pub keys_rise : IsOrdered (slice_cmp nat_cmp) after
-  pub inserted : new.entries ≡ insert_entry (slice_cmp nat_cmp) taken.entries cache after
-  pub inserts : Updates (slice_cmp nat_cmp) taken new cache (Some after)
-  pub names_rise : IsOrdered (slice_cmp nat_cmp) new
+option_map-cond : {A B : Type 0} (f : A → B) (b : Bool) (x y : Option A) → option_map f (cond b x y) ≡ cond b (option_map f x) (option_map f y)
+option_map-cond f true x y = refl
+option_map-cond f false x y = refl
 
-cond-twice : {X : Type 0} (b : Bool) (x y z : X) → cond b x (cond b y z) ≡ cond b x z
-cond-twice true x y z = refl
-cond-twice false x y z = refl
+-- the caches of a map in which w stands at one cache
+lookup-updated_shown : (cache : List ℕ) (old new : CacheMap) (w : Option PairMap) → UpdatesBy (slice_cmp nat_cmp) (slice_cmp nat_cmp cache) old new w → (c : List ℕ) → lookup (same c) (caches_shown new) ≡ cond (same cache c) (option_map (λ (n : PairMap). n.entries) w) (lookup (same c) (caches_shown old))
+lookup-updated_shown cache old new w updates c =
+    lookup-caches_shown new c
+    ∙ ap (option_map (λ (n : PairMap). n.entries)) (updates.0 c)
+    ∙ option_map-cond (λ (n : PairMap). n.entries) (is_at (slice_cmp nat_cmp cache) c) w (at old c)
+    ∙ ap (λ test. cond (test c) (option_map (λ (n : PairMap). n.entries) w) (option_map (λ (n : PairMap). n.entries) (at old c))) (sym (same-is_at cache))
+    ∙ ap (cond (same cache c) (option_map (λ (n : PairMap). n.entries) w)) (sym (lookup-caches_shown old c))
 
--- the caches after a put
-at-put : (cache key value : List ℕ) (old taken new : CacheMap) (none before after : PairMap) → PutSteps cache key value old taken new none before after → (c : List ℕ) → at new c ≡ cond (same cache c) (Some after) (at old c)
-at-put cache key value old taken new none before after s c =
-    s.inserts.0 c
-    ∙ ap (cond (is_at (slice_cmp nat_cmp cache) c) (Some after)) (s.removes.0 c)
-    ∙ cond-twice (is_at (slice_cmp nat_cmp cache) c) (Some after) None (at old c)
-    ∙ ap (λ test. cond (test c) (Some after) (at old c)) (sym (same-is_at cache))
+pub IsReplaced-remove : (cache : List ℕ) (old new : CacheMap) → new.entries ≡ remove_entry (is_at (slice_cmp nat_cmp cache)) old.entries → UpdatesBy (slice_cmp nat_cmp) (slice_cmp nat_cmp cache) old new None → IsOrdered (slice_cmp nat_cmp) new → IsReplaced cache None (caches_shown old) (caches_shown new)
+IsReplaced-remove cache old new removed updates ordered = record {
+  names_rise = λ rise. subst IsRising (sym (keys_of-map_values (λ (n : PairMap). n.entries) new.entries)) ordered;
+  keys_rise = λ rise. subst KeysRiseIn (sym removed) (KeysRise-remove_entry (is_at (slice_cmp nat_cmp cache)) old.entries rise);
+  caches = lookup-updated_shown cache old new None updates;
+}
 
--- the pairs before a put, of a cache that may be absent
-lookup-unwrap_or : (o : Option PairMap) (none : PairMap) (key : List ℕ) → none.entries ≡ [] → lookup (same key) (unwrap_or o none).entries ≡ option_and_then (λ (n : PairMap). lookup (same key) n.entries) o
+pub IsReplaced-insert : (cache : List ℕ) (pairs : PairMap) (old new : CacheMap) → IsRising (map (λ p. p.0) pairs.entries) → new.entries ≡ insert_entry (slice_cmp nat_cmp) old.entries cache pairs → UpdatesBy (slice_cmp nat_cmp) (slice_cmp nat_cmp cache) old new (Some pairs) → IsOrdered (slice_cmp nat_cmp) new → IsReplaced cache (Some pairs.entries) (caches_shown old) (caches_shown new)
+IsReplaced-insert cache pairs old new rises inserted updates ordered = record {
+  names_rise = λ rise. subst IsRising (sym (keys_of-map_values (λ (n : PairMap). n.entries) new.entries)) ordered;
+  keys_rise = λ rise. subst KeysRiseIn (sym inserted) (KeysRise-insert_entry old.entries cache pairs rises rise);
+  caches = lookup-updated_shown cache old new (Some pairs) updates;
+}
+
+-- two replacements of one cache are the second
+twice : {X : Type 0} (b : Bool) (x y z : X) → cond b x (cond b y z) ≡ cond b x z
+twice true x y z = refl
+twice false x y z = refl
+
+pub IsReplaced-again : (cache : List ℕ) (first next : Option Pairs) (old between new : List (List ℕ × Pairs)) → IsReplaced cache first old between → IsReplaced cache next between new → IsReplaced cache next old new
+IsReplaced-again cache first next old between new a b = record {
+  names_rise = λ rise. b.names_rise (a.names_rise rise);
+  keys_rise = λ rise. b.keys_rise (a.keys_rise rise);
+  caches = λ c. b.caches c ∙ ap (cond (same cache c) next) (a.caches c) ∙ twice (same cache c) next first (lookup (same c) old);
+}
+
+-- ---- the pairs of one cache, in which w stands at one key
+
+pub lookup-updated : (key : List ℕ) (before after : PairMap) (w : Option (List ℕ)) → UpdatesBy (slice_cmp nat_cmp) (slice_cmp nat_cmp key) before after w → (k : List ℕ) → lookup (same k) after.entries ≡ cond (same key k) w (lookup (same k) before.entries)
+lookup-updated key before after w updates k =
+    sym (at-lookup after k)
+    ∙ updates.0 k
+    ∙ ap (λ test. cond (test k) w (at before k)) (sym (same-is_at key))
+    ∙ ap (cond (same key k) w) (at-lookup before k)
+
+-- the pairs of a cache that was taken out, or none
+pub lookup-unwrap_or : (taken : Option PairMap) (none : PairMap) (key : List ℕ) → none.entries ≡ [] → lookup (same key) (unwrap_or taken none).entries ≡ found key (option_map (λ (n : PairMap). n.entries) taken)
 lookup-unwrap_or None none key empty = ap (lookup (same key)) empty
 lookup-unwrap_or (Some pairs) none key empty = refl
-
--- the pairs after a put
-lookup-put : (cache key value : List ℕ) (old taken new : CacheMap) (none before after : PairMap) → PutSteps cache key value old taken new none before after → (k : List ℕ) → lookup (same k) after.entries ≡ cond (same key k) (Some value) (option_and_then (λ (n : PairMap). lookup (same k) n.entries) (at old cache))
-lookup-put cache key value old taken new none before after s k =
-    sym (at-lookup after k)
-    ∙ s.puts.0 k
-    ∙ ap (λ test. cond (test k) (Some value) (at before k)) (sym (same-is_at key))
-    ∙ ap (cond (same key k) (Some value)) (at-lookup before k ∙ ap (λ (n : PairMap). lookup (same k) n.entries) s.pairs ∙ lookup-unwrap_or (at old cache) none k s.empty)
-
--- a look-up in one cache more, where the test on the cache is b
-values-split : (b more : Bool) (value : List ℕ) (after : PairMap) (k : List ℕ) (was here : Option PairMap) → (b ≡ true → here ≡ was) → lookup (same k) after.entries ≡ cond more (Some value) (option_and_then (λ (n : PairMap). lookup (same k) n.entries) here) → option_and_then (λ (n : PairMap). lookup (same k) n.entries) (cond b (Some after) was) ≡ cond (b && more) (Some value) (option_and_then (λ (n : PairMap). lookup (same k) n.entries) was)
-values-split true more value after k was here is_here is = is ∙ ap (λ o. cond more (Some value) (option_and_then (λ (n : PairMap). lookup (same k) n.entries) o)) (is_here refl)
-values-split false more value after k was here is_here is = refl
-
-presence-split : (b : Bool) (after : PairMap) (was : Option PairMap) → is_some (cond b (Some after) was) ≡ cond b true (is_some was)
-presence-split true after was = refl
-presence-split false after was = refl
-
-pub IsChangedBy-put : (cache key value : List ℕ) (old taken new : CacheMap) (none before after : PairMap) → PutSteps cache key value old taken new none before after → IsChangedBy (put cache key value) (caches_shown old) (caches_shown new)
-IsChangedBy-put cache key value old taken new none before after s = record {
-  names_rise = subst IsRising (sym (keys_of-map_values (λ (n : PairMap). n.entries) new.entries)) s.names_rise;
-  keys_rise = λ rise. subst KeysRise (sym (s.inserted ∙ ap (λ es. insert_entry (slice_cmp nat_cmp) es cache after) s.removed)) (KeysRise-insert_entry _ cache after s.keys_rise (KeysRise-remove_entry (is_at (slice_cmp nat_cmp cache)) old.entries rise));
-  presence = λ c. presence-caches_shown new c ∙ ap is_some (at-put cache key value old taken new none before after s c) ∙ presence-split (same cache c) after (at old c) ∙ ap (cond (same cache c) true) (sym (presence-caches_shown old c));
-  values = λ c k.
-      value_in-caches_shown new c k
-      ∙ ap (option_and_then (λ (n : PairMap). lookup (same k) n.entries)) (at-put cache key value old taken new none before after s c)
-      ∙ values-split (same cache c) (same key k) value after k (at old c) (at old cache) (λ e. ap (at old) ((bytes_decides cache c).0 e)) (lookup-put cache key value old taken new none before after s k)
-      ∙ ap (cond (same cache c && same key k) (Some value)) (sym (value_in-caches_shown old c k));
-}

@@ -2,7 +2,7 @@
 use Rattle.std.specs.Prelude.{ℕ, List, map, reverse, Bool, true, false, ◌&&◌, Option, Some, None, is_some}
 use Rattle.std.specs.Map.{lookup}
 use Rattle.cache_key.specs.declared.request.Mutation.{Mutation}
-use Rattle.cache_key.specs.declared.request.Mutation.TheVariants.{Put}
+use Rattle.cache_key.specs.declared.request.Mutation.TheVariants.{Put, Remove, Ensure, Truncate, Destroy, Batch}
 use Rattle.cache_model.specs.Caches.{same, Pairs, Caches, value_in}
 
 -- a change of one partition
@@ -25,6 +25,11 @@ pub data Change : Type 0 where
 -- the change that a mutation of the program is
 abbrev pub change_of : Mutation → Change
 change_of (Put cache key value) = put cache key value
+change_of (Remove cache key) = remove cache key
+change_of (Ensure cache) = ensure cache
+change_of (Truncate cache) = truncate cache
+change_of (Destroy cache) = destroy cache
+change_of (Batch cache pairs) = batch cache pairs
 
 abbrev pub changes_of : List Mutation → List Change
 changes_of mutations = map change_of mutations

@@ -35,9 +35,17 @@ pub record SameContents (changes others : List Change) : Type 0 where
 abbrev pub IsRising : List (List ℕ) → Type 0
 IsRising texts = IsStrictlySortedBy (slice_cmp nat_cmp) texts
 
+-- the caches stand in the order of their names
+abbrev pub NamesRise : Caches → Type 0
+NamesRise caches = IsRising (map (λ c. c.0) caches)
+
+-- the pairs of each cache stand in the order of their keys
+abbrev pub KeysRise : Caches → Type 0
+KeysRise caches = AllByRecursion (λ c. IsRising (map (λ p. p.0) c.1)) caches
+
 -- these are the contents after the changes, in the one order: caches by name, keys by bytes
 pub record AreContentsAfter (changes : List Change) (caches : Caches) : Type 0 where
-  pub names_rise : IsRising (map (λ c. c.0) caches)
-  pub keys_rise : AllByRecursion (λ c. IsRising (map (λ p. p.0) c.1)) caches
+  pub names_rise : NamesRise caches
+  pub keys_rise : KeysRise caches
   pub presence : (cache : List ℕ) → is_some (lookup (same cache) caches) ≡ is_present_after changes cache
   pub values : (cache key : List ℕ) → value_in caches cache key ≡ value_after changes cache key

@@ -1,6 +1,9 @@
 pub mod Caches
 pub mod Change
 pub mod Contents
+pub mod Parts
+pub mod PlainList
 pub mod Reply
 pub mod Shown
+pub mod Size
 pub mod Step

@@ -1,9 +1,14 @@
 //! The plain program: it keeps the list of mutations, and reads the whole list for each answer.
-ghost use Rattle.std.specs.Prelude.{◌≡◌, Some, None, is_some, IfOk, if◌then◌else◌};
+ghost use Rattle.std.specs.Prelude.{◌≡◌, ℕ, List, [], reverse, true, false, Some, None, is_some, IfOk, if◌then◌else◌};
+ghost use Rattle.std.specs.Map.{lookup};
 ghost use Rattle.std.specs.Option.{option_map, option_copied};
+ghost use Rattle.cache_key.specs.declared.request.Request.TheVariants.{PutAll};
+ghost use Rattle.cache_model.specs.Caches.{same};
 ghost use Rattle.cache_model.specs.Change.{change_of, changes_of, writes, value_left, rules, presence_left};
 ghost use Rattle.cache_model.specs.Contents.{value_after, is_present_after, AreContentsAfter};
+ghost use Rattle.cache_model.specs.Parts.{HasPart};
 ghost use Rattle.cache_model.specs.Reply.{mutation_of, reply_after};
+ghost use Rattle.cache_model.specs.Size.{size_after};
 
 use crate::contents::Contents;
 use cache_key::{CacheName, Key, Mutation, Reply, Request, Value};
@@ -54,15 +59,38 @@ pub fn collect_contents(alloc: Global, mutations: &[Mutation]) -> Result<Content
     Ok(contents)
 }
 
+/// How many keys of the cache have a value after the mutations, the oldest first.
+///
+/// Takes memory for a copy of the contents.
+pub fn size(alloc: Global, mutations: &[Mutation], cache: &CacheName) -> Result<u64, AllocError>
+    ensures { IfOk result (λ count. count ≡ size_after (changes_of mutations.now) cache.now) }
+{
+    let contents = collect_contents(alloc, mutations)?;
+    match contents.caches().get(cache) {
+        Some(pairs) => Ok(pairs.len() as u64),
+        None => Ok(0),
+    }
+}
+
 /// What the request is replied after the mutations, the oldest first.
 ///
-/// Takes memory for a copy of the value.
-pub fn reply_to(mutations: &[Mutation], request: &Request) -> Result<Reply, AllocError>
+/// Takes memory for a copy of the value, and for a size what `size` takes.
+pub fn reply_to(
+    alloc: Global,
+    mutations: &[Mutation],
+    request: &Request,
+) -> Result<Reply, AllocError>
     ensures { IfOk result (λ reply. reply ≡ reply_after (changes_of mutations.now) request.now) }
 {
     match request {
         Request::Get(cache, key) => value_reply(find_value(mutations, cache, key)),
         Request::Put(cache, key, _) => value_reply(find_value(mutations, cache, key)),
+        Request::Remove(cache, key) => value_reply(find_value(mutations, cache, key)),
+        Request::Size(cache) => Ok(Reply::Count(size(alloc, mutations, cache)?)),
+        Request::Ensure(_) => Ok(Reply::Done),
+        Request::Truncate(_) => Ok(Reply::Done),
+        Request::Destroy(_) => Ok(Reply::Done),
+        Request::PutAll(_, _) => Ok(Reply::Done),
     }
 }
 
@@ -72,7 +100,30 @@ pub fn is_mutation(request: &Request) -> bool
 {
     match request {
         Request::Get(_, _) => false,
+        Request::Size(_) => false,
         Request::Put(_, _, _) => true,
+        Request::Remove(_, _) => true,
+        Request::Ensure(_) => true,
+        Request::Truncate(_) => true,
+        Request::Destroy(_) => true,
+        Request::PutAll(_, _) => true,
+    }
+}
+
+/// Whether the request is a putAll of no pairs, of which no partition has a part. Takes no memory.
+pub fn asks_nothing(request: &Request) -> bool
+    ensures nothing { result ≡ true → (cache : List ℕ) × (request.now ≡ PutAll cache []) }
+    ensures something { result ≡ false → HasPart request.now }
+{
+    match request {
+        Request::PutAll(_, pairs) => pairs.len() == 0,
+        Request::Get(_, _)
+        | Request::Put(_, _, _)
+        | Request::Remove(_, _)
+        | Request::Ensure(_)
+        | Request::Truncate(_)
+        | Request::Destroy(_)
+        | Request::Size(_) => false,
     }
 }
 
@@ -82,7 +133,13 @@ pub fn as_mutation(request: Request) -> Option<Mutation>
 {
     match request {
         Request::Get(_, _) => None,
+        Request::Size(_) => None,
         Request::Put(cache, key, value) => Some(Mutation::Put(cache, key, value)),
+        Request::Remove(cache, key) => Some(Mutation::Remove(cache, key)),
+        Request::Ensure(cache) => Some(Mutation::Ensure(cache)),
+        Request::Truncate(cache) => Some(Mutation::Truncate(cache)),
+        Request::Destroy(cache) => Some(Mutation::Destroy(cache)),
+        Request::PutAll(cache, pairs) => Some(Mutation::Batch(cache, pairs)),
     }
 }
 
@@ -103,7 +160,49 @@ fn value_written<'a>(
                 None
             }
         }
+        Mutation::Remove(of_cache, removed) => {
+            if of_cache == cache && removed == key {
+                Some(None)
+            } else {
+                None
+            }
+        }
+        Mutation::Ensure(_) => None,
+        Mutation::Truncate(truncated) => { if truncated == cache { Some(None) } else { None } }
+        Mutation::Destroy(destroyed) => { if destroyed == cache { Some(None) } else { None } }
+        Mutation::Batch(of_cache, pairs) => {
+            if of_cache == cache {
+                value_put(pairs.as_slice(), key)
+            } else {
+                None
+            }
+        }
     }
+}
+
+// What the pairs, put one after the other, leave at the key, if one of them has it.
+fn value_put<'a>(pairs: &'a [(Key, Value)], key: &Key) -> Option<Option<&'a Value>>
+    ensures { option_map (λ left. option_copied left) result
+        ≡ (if is_some (lookup (same key.now) pairs.now) then Some (lookup (same key.now) (reverse pairs.now)) else None) }
+{
+    match last_value(pairs, key) {
+        Some(value) => Some(Some(value)),
+        None => None,
+    }
+}
+
+// The value of the last pair with the key.
+fn last_value<'a>(pairs: &'a [(Key, Value)], key: &Key) -> Option<&'a Value>
+    ensures { option_copied result ≡ lookup (same key.now) (reverse pairs.now) }
+{
+    let mut rest = pairs;
+    while let Some((last, earlier)) = rest.split_last() {
+        if key == &last.0 {
+            return Some(&last.1);
+        }
+        rest = earlier;
+    }
+    None
 }
 
 // Whether the mutation leaves the cache there, if it decides that.
@@ -113,6 +212,17 @@ fn presence_ruled(mutation: &Mutation, cache: &CacheName) -> Option<bool>
 {
     match mutation {
         Mutation::Put(put_cache, _, _) => { if put_cache == cache { Some(true) } else { None } }
+        Mutation::Remove(_, _) => None,
+        Mutation::Ensure(ensured) => { if ensured == cache { Some(true) } else { None } }
+        Mutation::Truncate(_) => None,
+        Mutation::Destroy(destroyed) => {
+            if destroyed == cache {
+                Some(false)
+            } else {
+                None
+            }
+        }
+        Mutation::Batch(of_cache, _) => { if of_cache == cache { Some(true) } else { None } }
     }
 }
 

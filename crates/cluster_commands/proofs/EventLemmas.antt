@@ -1,11 +1,17 @@
 -- Events are carried out, or are broken off.
-use Rattle.std.proofs.Common.{◌≡◌, ◌≢◌, ◌⊎◌, inl, inr, ⊎_elim, List, [], ◌∷◌, ◌++◌, refl, sym, ◌∙◌, ap, subst, append_assoc, Bool, false, true, Option, Some, None, Result, Ok, Err, IfOk, OnErr}
+use Rattle.std.proofs.Common.{◌≡◌, ◌≢◌, ◌⊎◌, inl, inr, ⊎_elim, ℕ, arith, List, [], ◌∷◌, ◌++◌, refl, sym, ◌∙◌, ap, subst, append_assoc, Bool, false, true, Option, Some, None, Result, Ok, Err, IfOk, OnErr}
 use Rattle.std.proofs.lemmas.List.{append-nil}
 use Rattle.std.specs.Prelude.{is_some}
 use Rattle.fault_count.specs.Rose.{Rose}
 use Rattle.cache_key.specs.declared.request.Mutation.{Mutation}
 use Rattle.cache_key.specs.declared.request.Reply.{Reply}
+use Rattle.cache_key.specs.declared.request.Mutation.TheVariants as mutations
+use Rattle.cache_key.specs.declared.request.Reply.TheVariants.{Done}
 use Rattle.cache_key.specs.declared.request.Request.{Request}
+use Rattle.cache_key.specs.declared.request.Request.TheVariants.{Get, Put, Remove, Ensure, Truncate, Destroy, PutAll, Size}
+use Rattle.cache_model.specs.Parts.{HasPart, parts_of, joined_reply}
+use Rattle.cache_model.proofs.PartsLemmas.{one_part, no_part, joined_alone}
+use Rattle.record_form.specs.GroupText.{HasPairs}
 use Rattle.cache_model.specs.Change.{Change}
 use Rattle.cache_model.specs.Reply.{mutation_of, reply_after, changes_in, changes_asked}
 use Rattle.disk_trait.specs.View.{View}
@@ -17,8 +23,8 @@ use Rattle.script_lines.specs.declared.answer.Outcome.{Outcome}
 use Rattle.script_lines.specs.declared.answer.Outcome.TheVariants.{Replied, Refused}
 use Rattle.script_lines.specs.declared.answer.Refusal.{Refusal}
 use Rattle.script_lines.specs.declared.answer.Refusal.TheVariants as refusals
-use Rattle.cluster_commands.specs.State.{OpenCluster, opened, failing, changed, State, Counts, CallChange, EventStep, EventRun}
-use Rattle.cluster_commands.specs.Breaks.{IsInFlight, EventBreaks, NextBreaks, EventsBreak}
+use Rattle.cluster_commands.specs.State.{OpenCluster, Stage, closed, opened, failing, changed, State, Counts, CallChange, PartStep, GoesOn, PartsChange, EventStep, EventRun}
+use Rattle.cluster_commands.specs.Breaks.{IsInFlight, PartBreaks, PartsBreak, EventBreaks, NextBreaks, EventsBreak}
 use Rattle.cluster_commands.specs.OnDisk.{cluster_of, stage_with, stage_of, state_of}
 use Rattle.cluster_commands.specs.declared.cluster.Opened.{Opened}
 
@@ -35,19 +41,19 @@ asks request change is none = cc
 module _ (old new : Opened) (v w : View) (tells : Bool) (request : Request) (on : Onward v w) where
   -- nothing is in flight before
   at_sound : (outcome : Outcome) → old.flight ≡ None → CallChange (opened (cluster_of old)) request outcome (stage_of new) (Rose v.faults w.faults)
-      → EventStep (state_of old v tells) (Call request) outcome (state_of new w tells)
+      → PartStep (state_of old v tells) request outcome (state_of new w tells)
   at_sound outcome sound is =
       (counts_on old new v w tells on, subst (λ (f : Option Mutation). CallChange (stage_with (cluster_of old) f) request outcome (stage_of new) (Rose v.faults w.faults)) (sym sound) is)
 
   -- the mutation is durable
   pub replied : (change : Change) (reply : Reply) → old.flight ≡ None → changes_asked request ≡ change ∷ [] → reply ≡ reply_after (cluster_of old).changes request
-      → stage_of new ≡ opened (changed (cluster_of old) (change ∷ [])) → EventStep (state_of old v tells) (Call request) (Replied reply) (state_of new w tells)
+      → stage_of new ≡ opened (changed (cluster_of old) (change ∷ [])) → PartStep (state_of old v tells) request (Replied reply) (state_of new w tells)
   replied change reply sound asked is entered =
       at_sound (Replied reply) sound (is, entered ∙ ap (λ (cs : List Change). opened (changed (cluster_of old) cs)) (sym asked))
 
   -- the disk failed under it
   pub failed : (change : Change) (refusal : Refusal) → old.flight ≡ None → changes_asked request ≡ change ∷ [] → refusal ≡ refusals.Fault old.host → Rose v.faults w.faults
-      → stage_of new ≡ failing (cluster_of old) (change ∷ []) → EventStep (state_of old v tells) (Call request) (Refused refusal) (state_of new w tells)
+      → stage_of new ≡ failing (cluster_of old) (change ∷ []) → PartStep (state_of old v tells) request (Refused refusal) (state_of new w tells)
   failed change refusal sound asked is rose stage =
       at_sound (Refused refusal) sound (is, rose, asks request change asked, stage ∙ ap (λ (cs : List Change). failing (cluster_of old) cs) (sym asked))
 
@@ -58,11 +64,11 @@ module _ (old new : Opened) (v w : View) (tells : Bool) (request : Request) (on 
 
   -- memory ran out under it
   pub broken : (change : Change) → old.flight ≡ None → changes_asked request ≡ change ∷ [] → (stage_of new ≡ stage_of old) ⊎ (stage_of new ≡ failing (cluster_of old) (change ∷ []))
-      → EventBreaks (state_of old v tells) (Call request) (state_of new w tells)
+      → PartBreaks (state_of old v tells) request (state_of new w tells)
   broken change sound asked stage = (counts_on old new v w tells on, ⊎_elim inl (λ flies. inr (in_flight old.flight change sound asked flies)) stage)
 
 -- nothing was done
-pub not_begun : (old : Opened) (v : View) (tells : Bool) (request : Request) → EventBreaks (state_of old v tells) (Call request) (state_of old v tells)
+pub not_begun : (old : Opened) (v : View) (tells : Bool) (request : Request) → PartBreaks (state_of old v tells) request (state_of old v tells)
 not_begun old v tells request = (counts_on old old v v tells (onward_none v), inl refl)
 
 -- a request that changes nothing is answered from memory
@@ -74,7 +80,7 @@ unasked cluster None request reply fault none is =
 unasked cluster (Some mutation) request reply fault none is = (is, ap changes_in none, refl)
 
 pub answered : (old : Opened) (v : View) (tells : Bool) (request : Request) (reply : Reply) → None ≡ mutation_of request → reply ≡ reply_after (cluster_of old).changes request
-    → EventStep (state_of old v tells) (Call request) (Replied reply) (state_of old v tells)
+    → PartStep (state_of old v tells) request (Replied reply) (state_of old v tells)
 answered old v tells request reply none is = (counts_on old old v v tells (onward_none v), unasked (cluster_of old) old.flight request reply _ (sym none) is)
 
 some_asked : (mutation : Option Mutation) → is_some mutation ≡ true → changes_in mutation ≢ []
@@ -88,9 +94,59 @@ refused cluster (Some mutation) request fault flies is = (refl, some_asked (muta
 
 -- changes are in flight, and no other is made
 pub shut : (old : Opened) (v : View) (tells : Bool) (request : Request) (outcome : Outcome) → outcome ≡ Refused refusals.Closed → is_some old.flight ≡ true → is_some (mutation_of request) ≡ true
-    → EventStep (state_of old v tells) (Call request) outcome (state_of old v tells)
+    → PartStep (state_of old v tells) request outcome (state_of old v tells)
 shut old v tells request outcome answer flies is =
     (counts_on old old v v tells (onward_none v), subst (λ (o : Outcome). CallChange (stage_of old) request o (stage_of old) (Rose v.faults v.faults)) (sym answer) (refused (cluster_of old) old.flight request _ flies is))
+
+-- ---- the one part
+
+some_is : (found mutation : Mutation) → Some found ≡ Some mutation → found ≡ mutation
+some_is found mutation is = cc
+
+-- what is replied is a reply of the model
+replied_as : (stage new : Stage) (request : Request) (reply : Reply) (fault : Type 0) → CallChange stage request (Replied reply) new fault → reply ≡ joined_reply request (reply ∷ [])
+replied_as (closed files) new request reply fault is = absurd is
+replied_as (opened cluster) new request reply fault is = subst (λ (r : Reply). r ≡ joined_reply request (r ∷ [])) (sym is.0) (sym (joined_alone cluster.changes request))
+replied_as (failing cluster flight) new request reply fault is = subst (λ (r : Reply). r ≡ joined_reply request (r ∷ [])) (sym is.0) (sym (joined_alone cluster.changes request))
+
+alone_goes_on : (stage new : Stage) (request : Request) (outcome : Outcome) (fault : Type 0) → CallChange stage request outcome new fault
+    → GoesOn outcome new outcome new (λ reply. PartsChange new request [] ([] ++ reply ∷ []) outcome new fault)
+alone_goes_on stage new request (Replied reply) fault is = (ap (λ (r : Reply). Replied r) (replied_as stage new request reply fault is), refl)
+alone_goes_on stage new request (Refused refusal) fault is = (refl, refl)
+
+-- the part is the whole request
+pub whole_step : (old new : State) (request : Request) (outcome : Outcome) → HasPart request → PartStep old request outcome new → EventStep old (Call request) outcome new
+whole_step old new request outcome some is = (
+  is.0,
+  subst (λ (parts : List (ℕ × Request)). PartsChange old.stage request parts [] outcome new.stage (Rose old.faults new.faults)) (sym (one_part request some))
+      (outcome, new.stage, is.1, alone_goes_on old.stage new.stage request outcome (Rose old.faults new.faults) is.1),
+)
+
+pub whole_breaks : (old new : State) (request : Request) → HasPart request → PartBreaks old request new → EventBreaks old (Call request) new
+whole_breaks old new request some is = (
+  is.0,
+  subst (λ (parts : List (ℕ × Request)). PartsBreak old.stage parts new.stage (Rose old.faults new.faults)) (sym (one_part request some)) (⊎_elim (λ same. inl same) (λ flies. inr (inl flies)) is.1),
+)
+
+-- no partition has a part
+pub nothing_asked : (old : Opened) (v : View) (tells : Bool) (request : Request) (cache : List ℕ) → request ≡ PutAll cache []
+    → EventStep (state_of old v tells) (Call request) (Replied Done) (state_of old v tells)
+nothing_asked old v tells request cache is = subst (λ (r : Request). EventStep (state_of old v tells) (Call r) (Replied Done) (state_of old v tells)) (sym is) (
+  counts_on old old v v tells (onward_none v),
+  subst (λ (parts : List (ℕ × Request)). PartsChange (stage_of old) (PutAll cache []) parts [] (Replied Done) (stage_of old) (Rose v.faults v.faults)) (sym (no_part cache 1)) (refl, refl),
+)
+
+-- a batch of a part has pairs
+pub has_pairs : (request : Request) (mutation : Mutation) → HasPart request → mutation_of request ≡ Some mutation → HasPairs mutation
+has_pairs (Get cache key) mutation some is = absurd cc
+has_pairs (Put cache key value) mutation some is = subst HasPairs (some_is (mutations.Put cache key value) mutation is) tt
+has_pairs (Remove cache key) mutation some is = subst HasPairs (some_is (mutations.Remove cache key) mutation is) tt
+has_pairs (Ensure cache) mutation some is = subst HasPairs (some_is (mutations.Ensure cache) mutation is) tt
+has_pairs (Truncate cache) mutation some is = subst HasPairs (some_is (mutations.Truncate cache) mutation is) tt
+has_pairs (Destroy cache) mutation some is = subst HasPairs (some_is (mutations.Destroy cache) mutation is) tt
+has_pairs (PutAll cache []) mutation some is = absurd (some cache refl)
+has_pairs (PutAll cache (pair ∷ pairs)) mutation some is = subst HasPairs (some_is (mutations.Batch cache (pair ∷ pairs)) mutation is) (omega arith)
+has_pairs (Size cache) mutation some is = absurd cc
 
 -- what an answer comes to, in other words
 pub ok_still : {T E : Type 0} (result : Result T E) (P Q : T → Type 0) → ((value : T) → P value → Q value) → IfOk result P → IfOk result Q

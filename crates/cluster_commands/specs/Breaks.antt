@@ -1,6 +1,9 @@
 -- How far a command may have come that memory ran out in: it isn't answered, and the run ends.
 use Rattle.std.specs.Prelude.{◌≡◌, ◌≢◌, ℕ, ◌⊎◌, List, [], ◌∷◌, ◌++◌, Contains, false}
+use Rattle.fault_count.specs.Rose.{Rose}
+use Rattle.cache_key.specs.declared.request.Reply.{Reply}
 use Rattle.cache_key.specs.declared.request.Request.{Request}
+use Rattle.cache_model.specs.Parts.{parts_of}
 use Rattle.cache_model.specs.Reply.{changes_asked}
 use Rattle.script_lines.specs.declared.command.Command.{Command}
 use Rattle.script_lines.specs.declared.command.Command.TheVariants.{Create, Steps}
@@ -8,11 +11,12 @@ use Rattle.script_lines.specs.declared.command.Event.{Event}
 use Rattle.script_lines.specs.declared.command.Event.TheVariants.{Call}
 use Rattle.script_lines.specs.declared.answer.Answer.{Answer}
 use Rattle.script_lines.specs.declared.answer.Outcome.{Outcome}
+use Rattle.script_lines.specs.declared.answer.Outcome.TheVariants.{Replied}
 use Rattle.disk_trait.specs.View.{View}
 use Rattle.disk_trait.specs.Moments.{Later}
 use Rattle.cluster_commands.specs.OnDisk.{IsInState, DiskIsIn}
 use Rattle.cluster_commands.specs.declared.cluster.Cluster.{Cluster}
-use Rattle.cluster_commands.specs.State.{KnownFiles, unknown, Stage, closed, opened, failing, State, Counts, EventRun, CommandStep}
+use Rattle.cluster_commands.specs.State.{KnownFiles, unknown, Stage, closed, opened, failing, State, Counts, partition_count, CallChange, EventRun, CommandStep}
 
 -- the changes of the request are in flight
 abbrev pub IsInFlight : Stage → Request → Stage → Type 0
@@ -20,9 +24,19 @@ IsInFlight (closed files) request new = ⊥
 IsInFlight (opened cluster) request new = (changes_asked request ≢ []) × (new ≡ failing cluster (changes_asked request))
 IsInFlight (failing cluster flight) request new = ⊥
 
--- the event is broken off: nothing is changed, or its changes are in flight
+-- a request, or its part, is broken off: nothing is changed, or its changes are in flight
+abbrev pub PartBreaks : State → Request → State → Type 0
+PartBreaks old request new = Counts false old new × ((new.stage ≡ old.stage) ⊎ IsInFlight old.stage request new.stage)
+
+-- the parts of a request are broken off: before the next of them, or with its changes in flight, or after it was replied to
+abbrev pub PartsBreak : Stage → List (ℕ × Request) → Stage → Type 0 → Type 0
+PartsBreak old [] new fault = new ≡ old
+PartsBreak old (part ∷ parts) new fault =
+    (new ≡ old) ⊎ IsInFlight old part.1 new ⊎ (reply : Reply) × (mid : Stage) × CallChange old part.1 (Replied reply) mid fault × PartsBreak mid parts new fault
+
+-- the event is broken off: some of its parts are done, and the next is in flight or not
 abbrev pub EventBreaks : State → Event → State → Type 0
-EventBreaks old (Call request) new = Counts false old new × ((new.stage ≡ old.stage) ⊎ IsInFlight old.stage request new.stage)
+EventBreaks old (Call request) new = Counts false old new × PartsBreak old.stage (parts_of partition_count request) new.stage (Rose old.faults new.faults)
 
 -- the events are broken off between two of them, or within the next
 abbrev pub NextBreaks : State → List Event → State → Type 0

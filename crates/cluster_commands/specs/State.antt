@@ -2,10 +2,12 @@
 use Rattle.std.specs.Prelude.{⊤, ◌≡◌, ◌≢◌, ℕ, ◌≤◌, List, [], ◌∷◌, ◌++◌, ◌⊎◌, Contains, Bool, true, false, IsTrue}
 use Rattle.fault_count.specs.Rose.{Rose}
 use Rattle.fault_count.specs.OneMore.{IsOneMore}
+use Rattle.cache_key.specs.declared.request.Reply.{Reply}
 use Rattle.cache_key.specs.declared.request.Request.{Request}
 use Rattle.cache_model.specs.Caches.{Caches}
 use Rattle.cache_model.specs.Change.{Change}
 use Rattle.cache_model.specs.Contents.{AreContentsAfter}
+use Rattle.cache_model.specs.Parts.{parts_of, joined_reply}
 use Rattle.cache_model.specs.Reply.{reply_after, changes_asked}
 use Rattle.store_ident.specs.declared.ident.StoreId.{StoreId}
 use Rattle.script_lines.specs.declared.command.Command.{Command}
@@ -79,7 +81,7 @@ pub record Counts (restarted : Bool) (old new : State) : Type 0 where
 abbrev pub changed : OpenCluster → List Change → OpenCluster
 changed cluster changes = record { host = cluster.host; file = cluster.file; id = cluster.id; changes = cluster.changes ++ changes }
 
--- The request turns this stage into the new one, and comes to this; `fault` says that the disk has failed in it. Where
+-- The request, or its part, turns this stage into the new one, and comes to this; `fault` says that the disk has failed in it. Where
 -- changes are in flight a request that changes nothing is answered, and any other is refused.
 abbrev pub CallChange : Stage → Request → Outcome → Stage → Type 0 → Type 0
 CallChange (closed files) request outcome new fault = ⊥
@@ -89,9 +91,30 @@ CallChange (opened cluster) request (Refused refusal) new fault =
 CallChange (failing cluster flight) request (Replied reply) new fault = (reply ≡ reply_after cluster.changes request) × (changes_asked request ≡ []) × (new ≡ failing cluster flight)
 CallChange (failing cluster flight) request (Refused refusal) new fault = (refusal ≡ Closed) × (changes_asked request ≢ []) × (new ≡ failing cluster flight)
 
+-- the same of the whole state
+abbrev pub PartStep : State → Request → Outcome → State → Type 0
+PartStep old request outcome new = Counts false old new × CallChange old.stage request outcome new.stage (Rose old.faults new.faults)
+
+-- how many partitions there are
+abbrev pub partition_count : ℕ
+partition_count = 1
+
+-- a part that was replied to goes on to the next; one that was refused ends its request, whose outcome it is
+abbrev pub GoesOn : Outcome → Stage → Outcome → Stage → (Reply → Type 0) → Type 0
+GoesOn (Replied reply) mid outcome new next = next reply
+GoesOn (Refused refusal) mid outcome new next = (outcome ≡ Refused refusal) × (new ≡ mid)
+
+-- The parts of a request are done one after the other, by rising partition; at the first refusal they stop, and what was
+-- done stays. Before them others had these replies. (With several partitions a part changes the stage of its own.)
+abbrev pub PartsChange : Stage → Request → List (ℕ × Request) → List Reply → Outcome → Stage → Type 0 → Type 0
+PartsChange old request [] replies outcome new fault = (outcome ≡ Replied (joined_reply request replies)) × (new ≡ old)
+PartsChange old request (part ∷ parts) replies outcome new fault =
+    (found : Outcome) × (mid : Stage) × CallChange old part.1 found mid fault
+    × GoesOn found mid outcome new (λ reply. PartsChange mid request parts (replies ++ reply ∷ []) outcome new fault)
+
 -- the event turns this stage into the new one, and comes to this
 abbrev pub EventChange : Stage → Event → Outcome → Stage → Type 0 → Type 0
-EventChange stage (Call request) outcome new fault = CallChange stage request outcome new fault
+EventChange stage (Call request) outcome new fault = PartsChange stage request (parts_of partition_count request) [] outcome new fault
 
 -- the event turns the state into the new one, and comes to this
 abbrev pub EventStep : State → Event → Outcome → State → Type 0

@@ -3,7 +3,9 @@ ghost use Rattle.std.specs.Prelude.{◌≡◌, ◌⊎◌, [], ◌∷◌, OnOk, I
 ghost use Rattle.disk_trait.specs.declared.DiskRefusal.TheVariants.{Failed, NoMemory};
 ghost use Rattle.disk_trait.specs.Moments.{Onward};
 ghost use Rattle.fault_count.specs.Rose.{Rose};
+ghost use Rattle.cache_key.specs.declared.request.Mutation.{Mutation};
 ghost use Rattle.cache_model.specs.Change.{change_of};
+ghost use Rattle.record_form.specs.GroupText.{HasPairs};
 ghost use Rattle.cluster_commands.specs.State.{opened, failing, changed};
 ghost use Rattle.cluster_commands.specs.OnDisk.{cluster_of, stage_of, IsOnDisk};
 
@@ -24,6 +26,7 @@ pub fn commit<D: Disk>(
     mutation: Mutation,
 ) -> Result<(), DiskRefusal>
     requires sound { cluster.old.flight ≡ None }
+    requires pairs { HasPairs mutation }
     requires on_disk { IsOnDisk cluster.old (D.view disk.old) }
     ensures entered { OnOk result (stage_of cluster.new ≡ opened (changed (cluster_of cluster.old) (change_of mutation ∷ []))) }
     ensures failed { IsErrOf result Failed → stage_of cluster.new ≡ failing (cluster_of cluster.old) (change_of mutation ∷ []) }
@@ -34,15 +37,26 @@ pub fn commit<D: Disk>(
     ensures onward { Onward (D.view disk.old) (D.view disk.new) }
 {
     cluster.mutations.reserve(1)?;
-    let group = Group::one(mutation)?;
+    let group = Group::one(alloc, mutation)?;
     let tail = encode_tail(alloc, &group)?;
     let appended = cluster.store.append(disk, &tail);
-    let mutation = group.into_mutation();
+    let mutation = only_mutation(group);
     match appended {
         Ok(()) => cluster.mutations.push_reserved(mutation),
         Err(_) => set_in_flight(&mut cluster.flight, mutation),
     }
     appended
+}
+
+// The mutation of a group that has one.
+fn only_mutation(group: Group) -> Mutation
+    requires { (mutation : Mutation) × (group ≡ mutation ∷ []) }
+    ensures { group ≡ result ∷ [] }
+{
+    match group.into_mutations().pop() {
+        Some(mutation) => mutation,
+        None => unreachable!(),
+    }
 }
 
 // The mutation is in flight.

@@ -5,14 +5,16 @@ ghost use Rattle.cache_model.specs.Reply.{changes_asked, reply_after};
 ghost use Rattle.disk_trait.specs.Moments.{Onward};
 ghost use Rattle.cache_key.specs.declared.request.Request.{Request};
 ghost use Rattle.script_lines.specs.declared.command.Event.TheVariants.{Call};
-ghost use Rattle.cluster_commands.specs.State.{EventStep, EventRun};
-ghost use Rattle.cluster_commands.specs.Breaks.{EventBreaks, EventsBreak};
+ghost use Rattle.cache_model.specs.Parts.{HasPart};
+ghost use Rattle.record_form.specs.GroupText.{HasPairs};
+ghost use Rattle.cluster_commands.specs.State.{PartStep, EventStep, EventRun};
+ghost use Rattle.cluster_commands.specs.Breaks.{PartBreaks, EventBreaks, EventsBreak};
 ghost use Rattle.cluster_commands.specs.OnDisk.{cluster_of, state_of, IsOnDisk};
 
 use crate::cluster::Opened;
 use crate::commit::commit;
 use cache_key::{Mutation, Reply, Request};
-use cache_model::{as_mutation, is_mutation, reply_to};
+use cache_model::{as_mutation, asks_nothing, is_mutation, reply_to};
 use disk_trait::{Disk, DiskRefusal};
 use script_lines::{Event, Outcome, Refusal};
 use std::alloc::{AllocError, Global};
@@ -55,7 +57,7 @@ fn run_event<D: Disk>(
     }
 }
 
-// Asks the cluster. A request that changes something isn't done while changes are in flight.
+// Asks each partition for its part of the request: the one that there is for the whole, if it has a part.
 fn call<D: Disk>(
     alloc: Global,
     disk: &mut D,
@@ -68,10 +70,30 @@ fn call<D: Disk>(
     ensures on_disk { IsOnDisk cluster.new (D.view disk.new) }
     ensures onward { Onward (D.view disk.old) (D.view disk.new) }
 {
+    if asks_nothing(&request) {
+        return Ok(Outcome::Replied { reply: Reply::Done });
+    }
+    ask(alloc, disk, cluster, request)
+}
+
+// Asks the partition. A request that changes something isn't done while changes are in flight.
+fn ask<D: Disk>(
+    alloc: Global,
+    disk: &mut D,
+    cluster: &mut Opened,
+    request: Request,
+) -> Result<Outcome, AllocError>
+    requires part { HasPart request }
+    requires on_disk { IsOnDisk cluster.old (D.view disk.old) }
+    ensures step { IfOk result (λ outcome. (tells : Bool) → PartStep (state_of cluster.old (D.view disk.old) tells) request outcome (state_of cluster.new (D.view disk.new) tells)) }
+    ensures broken { OnErr result ((tells : Bool) → PartBreaks (state_of cluster.old (D.view disk.old) tells) request (state_of cluster.new (D.view disk.new) tells)) }
+    ensures on_disk { IsOnDisk cluster.new (D.view disk.new) }
+    ensures onward { Onward (D.view disk.old) (D.view disk.new) }
+{
     if cluster.flight.is_some() && is_mutation(&request) {
         return Ok(refused(Refusal::Closed));
     }
-    let reply = reply_to(&cluster.mutations, &request)?;
+    let reply = reply_to(alloc, &cluster.mutations, &request)?;
     match as_mutation(request) {
         Some(mutation) => change(alloc, disk, cluster, mutation, reply),
         None => Ok(Outcome::Replied { reply }),
@@ -87,11 +109,12 @@ fn change<D: Disk>(
     reply: Reply,
 ) -> Result<Outcome, AllocError>
     requires sound { cluster.old.flight ≡ None }
+    requires pairs { HasPairs mutation }
     requires on_disk { IsOnDisk cluster.old (D.view disk.old) }
     ensures step { IfOk result (λ outcome. (tells : Bool) (request : Request) → changes_asked request ≡ change_of mutation ∷ [] → reply ≡ reply_after (cluster_of cluster.old).changes request
-        → EventStep (state_of cluster.old (D.view disk.old) tells) (Call request) outcome (state_of cluster.new (D.view disk.new) tells)) }
+        → PartStep (state_of cluster.old (D.view disk.old) tells) request outcome (state_of cluster.new (D.view disk.new) tells)) }
     ensures broken { OnErr result ((tells : Bool) (request : Request) → changes_asked request ≡ change_of mutation ∷ []
-        → EventBreaks (state_of cluster.old (D.view disk.old) tells) (Call request) (state_of cluster.new (D.view disk.new) tells)) }
+        → PartBreaks (state_of cluster.old (D.view disk.old) tells) request (state_of cluster.new (D.view disk.new) tells)) }
     ensures on_disk { IsOnDisk cluster.new (D.view disk.new) }
     ensures onward { Onward (D.view disk.old) (D.view disk.new) }
 {

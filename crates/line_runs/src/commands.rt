@@ -1,12 +1,12 @@
 //! Lines by hand, and the command of each.
+use crate::events::add_request;
 use crate::fixtures::{add, expect_same, lettered, letters, put_line, repeat};
-use cache_key::Request;
 use script_lines::{Command, Event, LineFault, read_line};
 use std::alloc::Global;
 use std::process::Abort;
 
 /// What a line was read as: the command in words, each event after a blank.
-fn words(rt: &impl Abort, alloc: Global, line: &[u8]) -> String {
+pub(crate) fn words(rt: &impl Abort, alloc: Global, line: &[u8]) -> String {
     let mut text = String::new(alloc);
     match read_line(alloc, line) {
         Ok(command) => add_command(rt, &mut text, command),
@@ -33,18 +33,6 @@ fn add_events(rt: &impl Abort, text: &mut String, events: &[Event]) {
     for event in events {
         let Event::Call { request } = event;
         add_request(rt, text, request);
-    }
-}
-
-fn add_request(rt: &impl Abort, text: &mut String, request: &Request) {
-    match request {
-        Request::Get(cache, key) => {
-            add(rt, text, &[" get(", cache.text(), ",", key.text(), ")"]);
-        }
-        Request::Put(cache, key, value) => {
-            add(rt, text, &[" put(", cache.text(), ",", key.text()]);
-            add(rt, text, &[",", value.text(), ")"]);
-        }
     }
 }
 

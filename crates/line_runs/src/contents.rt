@@ -66,7 +66,7 @@ fn request(rt: &impl Abort, alloc: Global) -> Request {
 fn a_put_replies_the_value_before(rt: HostRuntime) {
     let mutations = puts(&rt, rt.alloc(), &[("c", "a", "1")]);
     let request = request(&rt, rt.alloc());
-    let reply = reply_to(mutations.as_slice(), &request).expect(&rt, "a reply");
+    let reply = reply_to(rt.alloc(), mutations.as_slice(), &request).expect(&rt, "a reply");
     let want = Reply::Value(Some(value(&rt, rt.alloc(), "1")));
     expect_same(&rt, "the reply", reply, want);
 }

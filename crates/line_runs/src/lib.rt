@@ -11,9 +11,15 @@ mod commands;
 #[cfg(test)]
 mod contents;
 #[cfg(test)]
+mod events;
+#[cfg(test)]
 mod fixtures;
 #[cfg(test)]
 mod line_reasons;
+#[cfg(test)]
+mod lists;
+#[cfg(test)]
+mod mutations;
 #[cfg(test)]
 mod names;
 #[cfg(test)]

@@ -5,7 +5,7 @@ use std::alloc::Global;
 use std::process::Abort;
 
 /// What a person reads of the line is this reason.
-fn expect_reason(rt: &impl Abort, alloc: Global, line: &[u8], want: &str) {
+pub(crate) fn expect_reason(rt: &impl Abort, alloc: Global, line: &[u8], want: &str) {
     let text = match read_line(alloc, line) {
         Ok(_) => String::from_str(alloc, "a command"),
         Err(fault) => format!(in alloc; "{fault}"),
@@ -134,7 +134,7 @@ const EVENTS: &[(&str, &str)] = &[
     (r#"[1,"c"]"#, "the name of event 2 is not a text"),
     (
         r#"["GET","c","k"]"#,
-        "event 2 has the unknown name \"GET\"; the events are get, put",
+        "event 2 has the unknown name \"GET\"; the events are get, put, remove, size, ensure, truncate, destroy, putAll",
     ),
     (
         r#"["get","c"]"#,

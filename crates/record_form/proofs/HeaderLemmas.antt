@@ -12,17 +12,17 @@ use Rattle.record_form.specs.declared.fault.RecordFault.{RecordFault}
 use Rattle.record_form.specs.HeaderText.{store_magic, store_format, IsHeader, header_text}
 use Rattle.record_form.specs.HeaderFault.{header_in, header_checks, first_failed, header_fault, unless}
 
-AreBytes-take : (n : ℕ) (bytes : List ℕ) → AreBytes bytes → AreBytes (take n bytes)
+pub AreBytes-take : (n : ℕ) (bytes : List ℕ) → AreBytes bytes → AreBytes (take n bytes)
 AreBytes-take n bytes are i =
     elim (cases_lt i n) [
       | inl below ↦ rw (get_or-take n bytes i 0 below) (are i)
       | inr past ↦ rw (get_or_past (take n bytes) i 0 (omega (arith, length-take n bytes))) (omega arith)
     ]
 
-AreBytes-drop : (n : ℕ) (bytes : List ℕ) → AreBytes bytes → AreBytes (drop n bytes)
+pub AreBytes-drop : (n : ℕ) (bytes : List ℕ) → AreBytes bytes → AreBytes (drop n bytes)
 AreBytes-drop n bytes are i = rw get_or-drop (are (n + i))
 
-take_prefix : (text : List ℕ) (offset size : ℕ) → take offset (take (offset + size) text) ≡ take offset text
+pub take_prefix : (text : List ℕ) (offset size : ℕ) → take offset (take (offset + size) text) ≡ take offset text
 take_prefix text offset size =
     elim (cases_lt (length text) (offset + size)) [
       | inl past ↦ ap (take offset) (take_all (offset + size) text (omega arith))

@@ -1,5 +1,9 @@
 pub mod HeaderText
-pub mod GroupText
 pub mod HeaderFault
+pub mod Form
+pub mod Prefix
+pub mod Characters
+pub mod GroupText
 pub mod GroupFault
+pub mod Reads
 pub mod FaultOffset

@@ -1,17 +1,18 @@
 //! Headers and groups as bytes.
-ghost use Rattle.std.specs.Prelude.{◌≡◌, ◌≤◌, ◌^◌, ◌<◌, ◌+◌, [], ◌∷◌, ◌++◌, length, IfOk, OnOk};
-ghost use Rattle.byte_fields.specs.Counted.{counted8_text, counted16_text, counted32_text};
+ghost use Rattle.std.specs.Prelude.{◌≡◌, ◌++◌, IfOk, OnOk};
+ghost use Rattle.std.specs.List.{flat_map};
+ghost use Rattle.byte_fields.specs.Numbers.{bytes8};
 ghost use Rattle.record_form.specs.HeaderText.{header_text};
-ghost use Rattle.record_form.specs.GroupText.{IsMutation, IsGroup, record_head, most_group_bytes, mutation_text, group_text, tail_text, growth_of};
+ghost use Rattle.record_form.specs.GroupText.{IsGroup, name_form, key_form, pair_form, mutation_text, tail_text};
 
-use crate::group::{CLOSED_GATE, Group, MUTATION_COUNT, PUT_TAG, RECORD_HEAD};
+use crate::group::{
+    BATCH_TAG, CLOSED_GATE, DESTROY_TAG, ENSURE_TAG, Group, PUT_TAG, RECORD_HEAD, REMOVE_TAG,
+    TRUNCATE_TAG,
+};
 use crate::header::{FORMAT, HEADER_BYTES, Header, MAGIC};
 use byte_fields::{push_bytes, push_u8, push_u16, push_u32};
 use cache_key::{CacheName, Key, Mutation, Value};
 use std::alloc::{AllocError, Global};
-
-/// What a put's record has beside its texts: the gate, the length, the count, the tag, and the counts of the three texts.
-const PUT_FRAME: u64 = 14;
 
 /// The bytes of a header.
 #[tactic(auto, unfolding(byte_fields::specs::Numbers::bytes_of))]
@@ -33,90 +34,90 @@ pub fn encode_header(header: &Header) -> [u8; HEADER_BYTES]
 
 /// What stands after the open gate of a group's record: the length, the payload, and a closed gate.
 ///
-/// Takes memory.
+/// Takes memory once, for all of it.
+#[tactic(auto, using(crate::proofs::GroupLengthLemmas::tail_is))]
 pub fn encode_tail(alloc: Global, group: &Group) -> Result<Vec<u8>, AllocError>
     ensures text { IfOk result (λ tail. tail.items ≡ tail_text group.now) }
     ensures limits { IsGroup group.now }
 {
-    let payload = payload(alloc, group.mutation())?;
-    let mut tail = Vec::new(alloc);
-    push_counted32(&mut tail, payload.as_slice())?;
+    let size = group.size();
+    let mutations = group.mutations();
+    // The closed gate takes the place of the gate that a record's head counts.
+    let mut tail = Vec::with_capacity(alloc, size as usize + RECORD_HEAD)?;
+    push_u32(&mut tail, size as u32)?;
+    push_u8(&mut tail, mutations.len() as u8)?;
+    push_mutations(&mut tail, mutations)?;
     push_u8(&mut tail, CLOSED_GATE)?;
     Ok(tail)
 }
 
-/// How many bytes a mutation's record of its own adds to a store of the contents: its own length, the head of a record, and the count.
-#[tactic(auto, using(crate::proofs::GroupLemmas::growth_of_put))]
-pub fn growth(mutation: &Mutation) -> u64
-    ensures length { result ≡ growth_of mutation.now }
-    ensures most { result ≤ record_head + most_group_bytes }
-    ensures limits { IsMutation mutation.now }
+/// Adds the spelling of each mutation.
+fn push_mutations(out: &mut Vec<u8>, mutations: &[Mutation]) -> Result<(), AllocError>
+    ensures { OnOk result (out.new.items ≡ out.old.items ++ flat_map mutation_text mutations.now) }
 {
-    match mutation {
-        Mutation::Put(cache, key, value) => {
-            PUT_FRAME
-                + cache.text().len() as u64
-                + key.text().len() as u64
-                + value.text().len() as u64
-        }
+    for mutation in mutations {
+        push_mutation(out, mutation)?;
     }
+    Ok(())
 }
 
-/// The count of one mutation, and the mutation.
-fn payload(alloc: Global, mutation: &Mutation) -> Result<Vec<u8>, AllocError>
-    ensures text { IfOk result (λ payload. payload.items ≡ group_text (mutation.now ∷ [])) }
-    ensures size { IfOk result (λ payload. length payload.items < 2 ^ 32) }
-    ensures limits { IsMutation mutation.now }
-{
-    // The growth counts the gate and the length too.
-    let room = growth(mutation) as usize - RECORD_HEAD;
-    let mut payload = Vec::with_capacity(alloc, room)?;
-    push_u8(&mut payload, MUTATION_COUNT)?;
-    push_mutation(&mut payload, mutation)?;
-    Ok(payload)
-}
-
-/// Adds the spelling of a mutation.
+/// Adds a mutation's tag and fields.
 fn push_mutation(out: &mut Vec<u8>, mutation: &Mutation) -> Result<(), AllocError>
     ensures { OnOk result (out.new.items ≡ out.old.items ++ mutation_text mutation.now) }
 {
     match mutation {
         Mutation::Put(cache, key, value) => {
-            push_u8(out, PUT_TAG)?;
-            push_cache(out, cache)?;
-            push_key(out, key)?;
-            push_value(out, value)
+            push_cache(out, PUT_TAG, cache)?;
+            push_pair(out, key, value)
+        }
+        Mutation::Remove(cache, key) => {
+            push_cache(out, REMOVE_TAG, cache)?;
+            push_key(out, key)
+        }
+        Mutation::Ensure(cache) => push_cache(out, ENSURE_TAG, cache),
+        Mutation::Truncate(cache) => push_cache(out, TRUNCATE_TAG, cache),
+        Mutation::Destroy(cache) => push_cache(out, DESTROY_TAG, cache),
+        Mutation::Batch(cache, pairs) => {
+            push_cache(out, BATCH_TAG, cache)?;
+            push_u8(out, pairs.len() as u8)?;
+            push_pairs(out, pairs.as_slice())
         }
     }
 }
 
-fn push_cache(out: &mut Vec<u8>, cache: &CacheName) -> Result<(), AllocError>
-    ensures { OnOk result (out.new.items ≡ out.old.items ++ counted8_text cache.now) }
+/// Adds a tag, and the name of a cache.
+fn push_cache(out: &mut Vec<u8>, tag: u8, cache: &CacheName) -> Result<(), AllocError>
+    ensures { OnOk result (out.new.items ≡ out.old.items ++ (bytes8 tag ++ name_form.text cache.now)) }
 {
     let text = cache.text().as_bytes();
+    push_u8(out, tag)?;
     push_u8(out, text.len() as u8)?;
     push_bytes(out, text)
 }
 
 fn push_key(out: &mut Vec<u8>, key: &Key) -> Result<(), AllocError>
-    ensures { OnOk result (out.new.items ≡ out.old.items ++ counted16_text key.now) }
+    ensures { OnOk result (out.new.items ≡ out.old.items ++ key_form.text key.now) }
 {
     let text = key.text().as_bytes();
     push_u16(out, text.len() as u16)?;
     push_bytes(out, text)
 }
 
-fn push_value(out: &mut Vec<u8>, value: &Value) -> Result<(), AllocError>
-    ensures { OnOk result (out.new.items ≡ out.old.items ++ counted32_text value.now) }
+fn push_pair(out: &mut Vec<u8>, key: &Key, value: &Value) -> Result<(), AllocError>
+    ensures { OnOk result (out.new.items ≡ out.old.items ++ pair_form.text (key.now, value.now)) }
 {
-    push_counted32(out, value.text().as_bytes())
+    push_key(out, key)?;
+    let text = value.text().as_bytes();
+    push_u32(out, text.len() as u32)?;
+    push_bytes(out, text)
 }
 
-/// Adds bytes after their count in four bytes.
-fn push_counted32(out: &mut Vec<u8>, bytes: &[u8]) -> Result<(), AllocError>
-    requires { length bytes.now < 2 ^ 32 }
-    ensures { OnOk result (out.new.items ≡ out.old.items ++ counted32_text bytes.now) }
+/// Adds pairs, one after the other.
+fn push_pairs(out: &mut Vec<u8>, pairs: &[(Key, Value)]) -> Result<(), AllocError>
+    ensures { OnOk result (out.new.items ≡ out.old.items ++ flat_map pair_form.text pairs.now) }
 {
-    push_u32(out, bytes.len() as u32)?;
-    push_bytes(out, bytes)
+    for (key, value) in pairs {
+        push_pair(out, key, value)?;
+    }
+    Ok(())
 }

@@ -1,33 +1,29 @@
 //! A group from its bytes.
-ghost use Rattle.std.specs.Prelude.{◌≡◌, ◌≢◌, ◌↔◌, ◌⊎◌, List, [], ◌∷◌, length, nat_le, None, Some, Ok, Err, MatchResult, IfOk, IfErr, IsErrOf};
-ghost use Rattle.cache_key.specs.Names.{IsName, IsKey, IsValue};
+ghost use Rattle.std.specs.Prelude.{◌≡◌, ◌≢◌, ◌↔◌, ◌⊎◌, ◌≤◌, ◌∷◌, ◌++◌, [], List, length, None, Some, Ok, Err, IfOk, IfErr, OnOk, IsErrOf, MatchResult};
+ghost use Rattle.cache_key.specs.Names.{most_pairs};
 ghost use Rattle.cache_key.specs.declared.request.Mutation.{Mutation};
-ghost use Rattle.cache_key.specs.declared.request.Mutation.TheVariants.{Put};
 ghost use Rattle.record_form.specs.declared.fault.RecordFault.{RecordFault};
-ghost use Rattle.record_form.specs.declared.fault.RecordFault.TheVariants.{Range, NoMemory};
-ghost use Rattle.record_form.specs.GroupText.{IsGroupText};
-ghost use Rattle.record_form.specs.HeaderFault.{first_failed, unless};
-ghost use Rattle.record_form.specs.GroupFault.{mutation_in, head_fault, group_fault};
+ghost use Rattle.record_form.specs.declared.fault.RecordFault.TheVariants.{NoMemory};
+ghost use Rattle.record_form.specs.Form.{many};
+ghost use Rattle.record_form.specs.Reads.{MakesField, Refuses};
+ghost use Rattle.record_form.specs.GroupText.{name_form, key_form, value_form, pair_form, pairs_form, fields_of, mutation_form, group_form, most_group_bytes, IsGroupText};
+ghost use Rattle.record_form.specs.GroupFault.{group_at, group_fault};
 
+use crate::check_group::check_group;
 use crate::fault::RecordFault;
-use crate::group::{Group, MUTATION_COUNT, PUT_TAG};
-use crate::read_text::{key_at, name_at, value_at};
-use byte_fields::u8_at;
-use cache_key::{CacheName, Key, Mutation, Value};
+use crate::group::{
+    DESTROY_TAG, ENSURE_TAG, Group, MOST_MUTATIONS, PUT_TAG, REMOVE_TAG, TRUNCATE_TAG,
+};
+use crate::read_text::{count, key_text, name_text, tag, value_text};
+use byte_fields::Cursor;
+use cache_key::{CacheName, Key, MOST_PAIRS, Mutation, Pairs, Value};
 use std::alloc::Global;
-
-/// The texts of a put.
-#[derive(Clone, Copy)]
-struct PutFields<'a> {
-    cache: &'a str,
-    key: &'a str,
-    value: &'a str,
-}
 
 /// The group that these bytes spell, all of them.
 ///
-/// A text is judged once all its bytes are there, and takes memory only where there is no fault.
+/// All bytes are judged before memory is taken for the mutations. No text is copied twice.
 pub fn decode_group(alloc: Global, payload: &[u8]) -> Result<Group, RecordFault>
+    requires { length payload.now ≤ most_group_bytes }
     ensures text { IfOk result (λ group. IsGroupText payload.now group) }
     ensures value { (mutations : List Mutation) → IsGroupText payload.now mutations → (result ≡ Ok mutations) ⊎ (result ≡ Err NoMemory) }
     ensures fault_at { (fault : RecordFault) → fault ≢ NoMemory → (IsErrOf result fault ↔ (group_fault payload.now ≡ Some fault)) }
@@ -36,71 +32,158 @@ pub fn decode_group(alloc: Global, payload: &[u8]) -> Result<Group, RecordFault>
     checked_group(alloc, payload)
 }
 
+#[tactic(auto, using(crate::proofs::GroupFaultLemmas::refused_memory))]
 fn checked_group(alloc: Global, payload: &[u8]) -> Result<Group, RecordFault>
-    ensures text { IfOk result (λ group. IsGroupText payload.now group) }
+    requires { length payload.now ≤ most_group_bytes }
     ensures decoded { MatchResult result
-        (λ group. (group_fault payload.now ≡ None) × (group ≡ mutation_in payload.now ∷ []))
+        (λ group. group_at payload.now ≡ Ok group)
         (λ fault. (group_fault payload.now ≡ Some fault) ⊎ ((group_fault payload.now ≡ None) × (fault ≡ NoMemory))) }
 {
-    let texts = texts(payload)?;
-    group_of(alloc, &texts)
+    check_group(payload)?;
+    let mutations = whole(alloc, payload)?;
+    Ok(Group::read(mutations, payload.len() as u64))
 }
 
-/// Makes the group of its texts.
-fn group_of(alloc: Global, texts: &PutFields<'_>) -> Result<Group, RecordFault>
-    requires cache { IsName texts.now.cache.now }
-    requires key { IsKey texts.now.key.now }
-    requires value { IsValue texts.now.value.now }
-    ensures group { IfOk result (λ group. group ≡ Put texts.now.cache.now texts.now.key.now texts.now.value.now ∷ []) }
+/// The mutations of all the bytes.
+#[tactic(auto, unfolding(crate::specs::GroupFault::group_at))]
+fn whole(alloc: Global, payload: &[u8]) -> Result<Vec<Mutation>, RecordFault>
+    ensures { MatchResult result
+        (λ mutations. group_at payload.now ≡ Ok mutations.items)
+        (λ fault. Refuses fault payload.now (group_at payload.now)) }
+{
+    let mut cursor = Cursor::over(payload);
+    let mutations = counted(alloc, &mut cursor)?;
+    if !cursor.is_at_end() {
+        return Err(RecordFault::Range(cursor.at()));
+    }
+    Ok(mutations)
+}
+
+/// The mutations after their count.
+fn counted(alloc: Global, cursor: &mut Cursor<'_>) -> Result<Vec<Mutation>, RecordFault>
+    ensures { MakesField group_form.read (λ mutations. mutations.items) cursor.old cursor.new result }
+{
+    let count = count(cursor, 1, 1, MOST_MUTATIONS)?;
+    mutations(alloc, cursor, count)
+}
+
+/// So many mutations.
+fn mutations(
+    alloc: Global,
+    cursor: &mut Cursor<'_>,
+    count: usize,
+) -> Result<Vec<Mutation>, RecordFault>
+    ensures { MakesField (many mutation_form count).read (λ mutations. mutations.items) cursor.old cursor.new result }
+{
+    let mut mutations = Vec::new(alloc);
+    for _ in 0..count {
+        let mutation = mutation(alloc, cursor)?;
+        add(&mut mutations, mutation)?;
+    }
+    Ok(mutations)
+}
+
+/// Adds a mutation at the end.
+fn add(mutations: &mut Vec<Mutation>, mutation: Mutation) -> Result<(), RecordFault>
+    ensures ok { OnOk result (mutations.new.items ≡ mutations.old.items ++ mutation ∷ []) }
     ensures no_memory { IfErr result (λ fault. fault ≡ NoMemory) }
 {
-    let cache = CacheName::of(alloc, texts.cache).map_err(|_| RecordFault::NoMemory)?;
-    let key = Key::of(alloc, texts.key).map_err(|_| RecordFault::NoMemory)?;
-    let value = Value::of(alloc, texts.value).map_err(|_| RecordFault::NoMemory)?;
-    Group::one(Mutation::Put(cache, key, value)).map_err(|_| RecordFault::NoMemory)
+    match mutations.push(mutation) {
+        Ok(()) => Ok(()),
+        Err(_) => Err(RecordFault::NoMemory),
+    }
 }
 
-/// Judges the bytes from left to right.
-fn texts(payload: &[u8]) -> Result<PutFields<'_>, RecordFault>
-    ensures texts { MatchResult result
-        (λ texts. (group_fault payload.now ≡ None) × (mutation_in payload.now ≡ Put texts.cache.now texts.key.now texts.value.now))
-        (λ fault. group_fault payload.now ≡ Some fault) }
-    ensures limits { IfOk result (λ texts. IsName texts.cache.now × IsKey texts.key.now × IsValue texts.value.now) }
+fn mutation(alloc: Global, cursor: &mut Cursor<'_>) -> Result<Mutation, RecordFault>
+    ensures { MakesField mutation_form.read (λ mutation. mutation) cursor.old cursor.new result }
 {
-    check_head(payload)?;
-    let cache = name_at(payload, 2)?;
-    let at_key = 3 + cache.len();
-    let key = key_at(payload, at_key)?;
-    let at_value = at_key + 2 + key.len();
-    let value = value_at(payload, at_value)?;
-    check_end(payload, at_value + 4 + value.len())?;
-    Ok(PutFields { cache, key, value })
+    let tag = tag(cursor)?;
+    fields(alloc, cursor, tag)
 }
 
-/// Judges the count and the tag.
-fn check_head(payload: &[u8]) -> Result<(), RecordFault>
-    ensures { result ≡ unless (head_fault payload.now) tt }
+/// The mutation of this tag, from its fields.
+fn fields(alloc: Global, cursor: &mut Cursor<'_>, tag: u8) -> Result<Mutation, RecordFault>
+    ensures { MakesField (fields_of tag).read (λ mutation. mutation) cursor.old cursor.new result }
 {
-    if payload.is_empty() {
-        return Err(RecordFault::Short(0));
+    let cache = name(alloc, cursor)?;
+    match tag {
+        PUT_TAG => {
+            let (key, value) = pair(alloc, cursor)?;
+            Ok(Mutation::Put(cache, key, value))
+        }
+        REMOVE_TAG => {
+            let key = key(alloc, cursor)?;
+            Ok(Mutation::Remove(cache, key))
+        }
+        ENSURE_TAG => Ok(Mutation::Ensure(cache)),
+        TRUNCATE_TAG => Ok(Mutation::Truncate(cache)),
+        DESTROY_TAG => Ok(Mutation::Destroy(cache)),
+        _ => {
+            let pairs = pairs(alloc, cursor)?;
+            Ok(Mutation::Batch(cache, pairs))
+        }
     }
-    if u8_at(payload, 0) != MUTATION_COUNT {
-        return Err(RecordFault::Range(0));
-    }
-    if payload.len() < 2 {
-        return Err(RecordFault::Short(1));
-    }
-    if u8_at(payload, 1) != PUT_TAG {
-        return Err(RecordFault::Tag(1));
-    }
-    Ok(())
 }
 
-fn check_end(payload: &[u8], end: usize) -> Result<(), RecordFault>
-    ensures { result ≡ unless (first_failed ((nat_le (length payload.now) end, Range end) ∷ [])) tt }
+fn name(alloc: Global, cursor: &mut Cursor<'_>) -> Result<CacheName, RecordFault>
+    ensures { MakesField name_form.read (λ name. name) cursor.old cursor.new result }
 {
-    if payload.len() > end {
-        return Err(RecordFault::Range(end as u64));
+    let text = name_text(cursor)?;
+    CacheName::of(alloc, text).map_err(|_| RecordFault::NoMemory)
+}
+
+fn key(alloc: Global, cursor: &mut Cursor<'_>) -> Result<Key, RecordFault>
+    ensures { MakesField key_form.read (λ key. key) cursor.old cursor.new result }
+{
+    let text = key_text(cursor)?;
+    Key::of(alloc, text).map_err(|_| RecordFault::NoMemory)
+}
+
+fn value(alloc: Global, cursor: &mut Cursor<'_>) -> Result<Value, RecordFault>
+    ensures { MakesField value_form.read (λ value. value) cursor.old cursor.new result }
+{
+    let text = value_text(cursor)?;
+    Value::of(alloc, text).map_err(|_| RecordFault::NoMemory)
+}
+
+/// A key and its value.
+fn pair(alloc: Global, cursor: &mut Cursor<'_>) -> Result<(Key, Value), RecordFault>
+    ensures { MakesField pair_form.read (λ pair. pair) cursor.old cursor.new result }
+{
+    let key = key(alloc, cursor)?;
+    let value = value(alloc, cursor)?;
+    Ok((key, value))
+}
+
+/// The pairs after their count.
+fn pairs(alloc: Global, cursor: &mut Cursor<'_>) -> Result<Pairs, RecordFault>
+    ensures { MakesField pairs_form.read (λ pairs. pairs) cursor.old cursor.new result }
+{
+    let count = count(cursor, 1, 1, MOST_PAIRS)?;
+    each_pair(alloc, cursor, count)
+}
+
+/// So many pairs.
+fn each_pair(alloc: Global, cursor: &mut Cursor<'_>, count: usize) -> Result<Pairs, RecordFault>
+    requires { count ≤ most_pairs }
+    ensures { MakesField (many pair_form count).read (λ pairs. pairs) cursor.old cursor.new result }
+{
+    let mut pairs = Pairs::new(alloc);
+    for _ in 0..count {
+        let (key, value) = pair(alloc, cursor)?;
+        add_pair(&mut pairs, key, value)?;
     }
-    Ok(())
+    Ok(pairs)
+}
+
+/// Adds a pair at the end.
+fn add_pair(pairs: &mut Pairs, key: Key, value: Value) -> Result<(), RecordFault>
+    ensures ok { OnOk result (pairs.new ≡ pairs.old ++ (key, value) ∷ []) }
+    ensures no_memory { IfErr result (λ fault. fault ≡ NoMemory) }
+{
+    match pairs.push(key, value) {
+        Ok(()) => Ok(()),
+        // No more pairs are read than there is room for.
+        Err(_) => Err(RecordFault::NoMemory),
+    }
 }

@@ -1,19 +1,12 @@
 -- Laws of the forms: data is at most one command.
 use Rattle.std.proofs.Common.{◌≡◌, ℕ, List, [], ◌∷◌, Some, refl, sym, ap, ◌∙◌, arith}
 use Rattle.serde_json.specs.Data.{Data, string, object, member}
-use Rattle.cache_key.specs.declared.request.Request.{Request}
-use Rattle.cache_key.specs.declared.request.Request.TheVariants.{Get, Put}
-use Rattle.script_lines.specs.Form.{request_data, event_data, events_data, command_data, IsLineOf}
+use Rattle.script_lines.specs.Form.{event_data, events_data, command_data, IsLineOf}
 use Rattle.script_lines.specs.declared.command.Command.{Command}
 use Rattle.script_lines.specs.declared.command.Command.TheVariants.{Create, Dump, Steps, Stop, Recover}
 use Rattle.script_lines.specs.declared.command.Event.{Event}
 use Rattle.script_lines.specs.declared.command.Event.TheVariants.{Call}
-
-request_data-injective : (a b : Request) → request_data a ≡ request_data b → a ≡ b
-request_data-injective (Get c k) (Get d l) e = cc
-request_data-injective (Get c k) (Put d l w) e = cc
-request_data-injective (Put c k v) (Get d l) e = cc
-request_data-injective (Put c k v) (Put d l w) e = cc
+use Rattle.script_lines.proofs.RequestLemmas.{request_data-injective}
 
 event_data-injective : (a b : Event) → event_data a ≡ event_data b → a ≡ b
 event_data-injective (Call a) (Call b) e = ap Call (request_data-injective a b e)

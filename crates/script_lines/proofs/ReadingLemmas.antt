@@ -1,6 +1,8 @@
 -- Laws of the results of reading, and of shapes.
-use Rattle.std.proofs.Common.{◌≡◌, ℕ, ◌≤◌, ◌<◌, ◌↔◌, List, [], length, get_or, Some, Result, Err, IsErrOf, false, refl, sym, ap, ◌∙◌, subst, arith}
+use Rattle.std.proofs.Common.{◌≡◌, ℕ, ◌≤◌, ◌<◌, ◌↔◌, List, [], length, get_or, Some, Result, Ok, Err, IsErrOf, false, refl, sym, ap, ◌∙◌, subst, arith}
 use Rattle.std.proofs.lemmas.List.Elements.{All-get_or}
+use Rattle.std.proofs.lemmas.Result.{err_from_is_err_and}
+use Rattle.std.specs.Result.{IsErrAnd}
 use Rattle.serde_json.specs.Data.{Data, null, boolean, number, string, array, object}
 use Rattle.serde_json.specs.Find.{as_str}
 use Rattle.cache_key.specs.Names.{most_name_bytes, is_name_byte, IsNameByte, IsName, IsFirstBadByte}
@@ -27,10 +29,23 @@ Reads-refused {X} {Y} P Q below above (Form reason) reads was is has =
     subst (Reads Q) (sym is) told
 Reads-refused P Q below above NoMemory reads was is has = subst (Reads Q) (sym is) tt
 
--- a text that is none is refused by the form
-refused : (P : List ℕ → Type 0) (fault : LineFault) → IsOfForm fault → ((text : List ℕ) → P text → ⊥) → Reads P (Err fault)
+-- the same at the exit of a `?`
+pub Reads-handed_on : {X Y : Type 0} (P : X → Type 0) (Q : Y → Type 0) (below : Result X LineFault) (above : Result Y LineFault) (fault : LineFault)
+    → Reads P below → below ≡ Err fault → IsErrAnd above (λ e. e ≡ fault) → ((y : Y) → Q y → (x : X) × P x) → Reads Q above
+Reads-handed_on {X} {Y} P Q below above fault reads was handed has =
+    let p = err_from_is_err_and above handed in
+    Reads-refused P Q below above p.0 reads (was ∙ ap Err (sym p.2)) p.1 has
+
+-- what is refused by the form isn't there
+pub refused : {X : Type 0} (P : X → Type 0) (fault : LineFault) → IsOfForm fault → ((x : X) → P x → ⊥) → Reads P (Err fault)
 refused P (Form reason) form none = none
 refused P NoMemory form none = absurd form
+
+-- a result of reading is one of reading the same said otherwise
+pub Reads-same : {X : Type 0} (P Q : X → Type 0) (r : Result X LineFault) → ((x : X) → P x → Q x) → ((x : X) → Q x → P x) → Reads P r → Reads Q r
+Reads-same P Q (Ok x) to from reads = to x reads
+Reads-same P Q (Err (Form reason)) to from reads = λ x is. reads x (from x is)
+Reads-same P Q (Err NoMemory) to from reads = tt
 
 -- a text that was refused as a name is none, running out of memory aside
 pub name_refused : (d : Data) (text : List ℕ) (fault : NameFault) (e : LineFault)

@@ -1,28 +1,173 @@
--- Laws of the lists of requests.
-use Rattle.std.proofs.Common.{◌≡◌, List, [], ◌∷◌, length, get_or, codes, refl, sym, ◌∙◌}
-use Rattle.serde_json.specs.Data.{Data, string, array}
-use Rattle.serde_json.specs.View.{view, items_view}
-use Rattle.serde_json.specs.declared.value.Value.{Value}
+-- Laws of requests: each is known by its name and the items after it.
+use Rattle.std.proofs.Common.{◌≡◌, ℕ, ◌+◌, ◌*◌, ◌==◌, if◌then◌else◌, List, [], ◌∷◌, length, refl, sym, ap, ◌∙◌, subst}
+use Rattle.serde_json.specs.Data.{Data, null, boolean, number, string, array, object, Items, no_items, item}
+use Rattle.cache_key.specs.Names.{IsName, IsKey, IsValue}
 use Rattle.cache_key.specs.declared.request.Request.{Request}
-use Rattle.cache_key.specs.declared.request.Request.TheVariants.{Get, Put}
-use Rattle.script_lines.specs.Form.{request_data}
-use Rattle.script_lines.specs.Reading.{IsRequestOf}
+use Rattle.cache_key.specs.declared.request.Request.TheVariants as requests
+use Rattle.script_lines.specs.Form.{named_list, pair_items, request_data}
+use Rattle.script_lines.specs.Reading.{event_word, request_name, request_items, IsRequestOf, IsAsked, IsTextOf, ArePairsOf, AreCacheAndKey}
+use Rattle.script_lines.specs.declared.reason.EventName.{EventName}
+use Rattle.script_lines.specs.declared.reason.EventName.TheVariants as names
 
--- if neither form of a request fits, there is no request
-no_request_in : (vs : List Value) → (length vs ≡ 3 → (x : Value) → ((y : Value) → get_or vs 0 y ≡ x) → view x ≡ string (codes "get") → ⊥)
-    → (length vs ≡ 4 → (x : Value) → ((y : Value) → get_or vs 0 y ≡ x) → view x ≡ string (codes "put") → ⊥) → (request : Request) → array (items_view vs) ≡ request_data request → ⊥
-no_request_in [] no_get no_put (Get cache key) is = cc
-no_request_in (a ∷ []) no_get no_put (Get cache key) is = cc
-no_request_in (a ∷ b ∷ []) no_get no_put (Get cache key) is = cc
-no_request_in (a ∷ b ∷ c ∷ []) no_get no_put (Get cache key) is = no_get refl a (λ y. refl) (cc)
-no_request_in (a ∷ b ∷ c ∷ d ∷ vs) no_get no_put (Get cache key) is = cc
-no_request_in [] no_get no_put (Put cache key value) is = cc
-no_request_in (a ∷ []) no_get no_put (Put cache key value) is = cc
-no_request_in (a ∷ b ∷ []) no_get no_put (Put cache key value) is = cc
-no_request_in (a ∷ b ∷ c ∷ []) no_get no_put (Put cache key value) is = cc
-no_request_in (a ∷ b ∷ c ∷ d ∷ []) no_get no_put (Put cache key value) is = no_put refl a (λ y. refl) (cc)
-no_request_in (a ∷ b ∷ c ∷ d ∷ e ∷ vs) no_get no_put (Put cache key value) is = cc
+-- ---- names
 
-pub no_request : (d : Data) (vs : List Value) → d ≡ array (items_view vs) → (length vs ≡ 3 → (x : Value) → ((y : Value) → get_or vs 0 y ≡ x) → view x ≡ string (codes "get") → ⊥)
-    → (length vs ≡ 4 → (x : Value) → ((y : Value) → get_or vs 0 y ≡ x) → view x ≡ string (codes "put") → ⊥) → (request : Request) → IsRequestOf d request → ⊥
-no_request d vs there no_get no_put request is = no_request_in vs no_get no_put request (sym there ∙ is.is)
+-- a number for each name
+abbrev word_weight : List ℕ → ℕ
+word_weight [] = 0
+word_weight (letter ∷ word) = letter + 10 * length word
+
+abbrev weighed : ℕ → EventName
+weighed n =
+    if n == 123 then names.Get else (
+    if n == 132 then names.Put else (
+    if n == 164 then names.Remove else (
+    if n == 145 then names.Size else (
+    if n == 151 then names.Ensure else (
+    if n == 186 then names.Truncate else (
+    if n == 160 then names.Destroy else names.PutAll
+    ))))))
+
+weighed-word : (name : EventName) → weighed (word_weight (event_word name)) ≡ name
+weighed-word names.Get = refl
+weighed-word names.Put = refl
+weighed-word names.Remove = refl
+weighed-word names.Size = refl
+weighed-word names.Ensure = refl
+weighed-word names.Truncate = refl
+weighed-word names.Destroy = refl
+weighed-word names.PutAll = refl
+
+event_word-injective : (a b : EventName) → event_word a ≡ event_word b → a ≡ b
+event_word-injective a b e = sym (weighed-word a) ∙ ap (λ word. weighed (word_weight word)) e ∙ weighed-word b
+
+-- lists with a name are one by their names and the items after them
+named_list-injective : (a b : EventName) (ds es : Items) → named_list (event_word a) ds ≡ named_list (event_word b) es → (a ≡ b) × (ds ≡ es)
+named_list-injective a b ds es e = let words : event_word a ≡ event_word b = cc in (event_word-injective a b words, cc)
+
+-- ---- the request of a name and items
+
+abbrev first : Items → Data
+first no_items = null
+first (item d ds) = d
+
+abbrev others : Items → Items
+others no_items = no_items
+others (item d ds) = ds
+
+abbrev text_of : Data → List ℕ
+text_of null = []
+text_of (boolean b) = []
+text_of (number n) = []
+text_of (string s) = s
+text_of (array ds) = []
+text_of (object ms) = []
+
+abbrev items_in : Data → Items
+items_in null = no_items
+items_in (boolean b) = no_items
+items_in (number n) = no_items
+items_in (string s) = no_items
+items_in (array ds) = ds
+items_in (object ms) = no_items
+
+abbrev pair_in : Data → List ℕ × List ℕ
+pair_in d = (text_of (first (items_in d)), text_of (first (others (items_in d))))
+
+abbrev pairs_in : Items → List (List ℕ × List ℕ)
+pairs_in no_items = []
+pairs_in (item d ds) = pair_in d ∷ pairs_in ds
+
+pairs_in-pair_items : (pairs : List (List ℕ × List ℕ)) → pairs_in (pair_items pairs) ≡ pairs
+pairs_in-pair_items [] = refl
+pairs_in-pair_items (pair ∷ pairs) = ap (λ ps. pair ∷ ps) (pairs_in-pair_items pairs)
+
+pub pair_items-injective : (ps qs : List (List ℕ × List ℕ)) → pair_items ps ≡ pair_items qs → ps ≡ qs
+pair_items-injective ps qs e = sym (pairs_in-pair_items ps) ∙ ap pairs_in e ∙ pairs_in-pair_items qs
+
+abbrev request_in : EventName → Items → Request
+request_in names.Get ds = requests.Get (text_of (first ds)) (text_of (first (others ds)))
+request_in names.Put ds = requests.Put (text_of (first ds)) (text_of (first (others ds))) (text_of (first (others (others ds))))
+request_in names.Remove ds = requests.Remove (text_of (first ds)) (text_of (first (others ds)))
+request_in names.Size ds = requests.Size (text_of (first ds))
+request_in names.Ensure ds = requests.Ensure (text_of (first ds))
+request_in names.Truncate ds = requests.Truncate (text_of (first ds))
+request_in names.Destroy ds = requests.Destroy (text_of (first ds))
+request_in names.PutAll ds = requests.PutAll (text_of (first ds)) (pairs_in (items_in (first (others ds))))
+
+request_in-own : (request : Request) → request_in (request_name request) (request_items request) ≡ request
+request_in-own (requests.Get cache key) = refl
+request_in-own (requests.Put cache key value) = refl
+request_in-own (requests.Remove cache key) = refl
+request_in-own (requests.Size cache) = refl
+request_in-own (requests.Ensure cache) = refl
+request_in-own (requests.Truncate cache) = refl
+request_in-own (requests.Destroy cache) = refl
+request_in-own (requests.PutAll cache pairs) = ap (λ ps. requests.PutAll cache ps) (pairs_in-pair_items pairs)
+
+request_data-named : (request : Request) → request_data request ≡ named_list (event_word (request_name request)) (request_items request)
+request_data-named (requests.Get cache key) = refl
+request_data-named (requests.Put cache key value) = refl
+request_data-named (requests.Remove cache key) = refl
+request_data-named (requests.Size cache) = refl
+request_data-named (requests.Ensure cache) = refl
+request_data-named (requests.Truncate cache) = refl
+request_data-named (requests.Destroy cache) = refl
+request_data-named (requests.PutAll cache pairs) = refl
+
+-- requests with the same list are one
+pub request_data-injective : (a b : Request) → request_data a ≡ request_data b → a ≡ b
+request_data-injective a b e =
+    let p = named_list-injective (request_name a) (request_name b) (request_items a) (request_items b) (sym (request_data-named a) ∙ e ∙ request_data-named b) in
+    sym (request_in-own a) ∙ (λ i. request_in (p.0 i) (p.1 i)) ∙ request_in-own b
+
+-- ---- what is asked
+
+-- the first item of a request's list is its name
+pub word_of_request : (d : Data) (word : List ℕ) (ds : Items) → d ≡ named_list word ds → (request : Request) → IsRequestOf d request → word ≡ event_word (request_name request)
+word_of_request d word ds there request is =
+    let lists : named_list word ds ≡ named_list (event_word (request_name request)) (request_items request) = sym there ∙ is.is ∙ request_data-named request in
+    cc
+
+pub IsRequestOf-asked : (d : Data) (name : EventName) (ds : Items) → d ≡ named_list (event_word name) ds → (request : Request) → IsAsked name ds request → IsRequestOf d request
+IsRequestOf-asked d name ds there request asked =
+    record { is = there ∙ sym (λ i. named_list (event_word (asked.name_is i)) (sym asked.items i)) ∙ sym (request_data-named request); limits = asked.limits }
+
+pub IsAsked-request : (d : Data) (name : EventName) (ds : Items) → d ≡ named_list (event_word name) ds → (request : Request) → IsRequestOf d request → IsAsked name ds request
+IsAsked-request d name ds there request is =
+    let p = named_list-injective (request_name request) name (request_items request) ds (sym (request_data-named request) ∙ sym is.is ∙ there) in
+    record { name_is = p.0; items = sym p.1; limits = is.limits }
+
+-- what is asked by this name is the request of the name and the items
+pub asked_by : (name : EventName) (ds : Items) (request : Request) → IsAsked name ds request → IsAsked name ds (request_in name ds)
+asked_by name ds request asked = subst (IsAsked name ds) (sym (request_in-own request) ∙ (λ i. request_in (asked.name_is i) (sym asked.items i))) asked
+
+-- ---- the parts of a put, and of the put of all pairs
+
+pub put_parts : (a b d : Data) (ds : Items) → ds ≡ item a (item b (item d no_items)) → (request : Request) → IsAsked names.Put ds request
+    → ((cache : List ℕ) × IsTextOf IsName a cache) × ((key : List ℕ) × IsTextOf IsKey b key) × ((value : List ℕ) × IsTextOf IsValue d value)
+put_parts a b d ds are request asked =
+    let own = asked_by names.Put ds request asked in
+    let same : item a (item b (item d no_items)) ≡ item (string (text_of (first ds))) (item (string (text_of (first (others ds)))) (item (string (text_of (first (others (others ds))))) no_items)) = sym are ∙ own.items in
+    ((text_of (first ds), record { is = cc; limits = own.limits.0 }), (text_of (first (others ds)), record { is = cc; limits = own.limits.1 }), (text_of (first (others (others ds))), record { is = cc; limits = own.limits.2 }))
+
+pub put_of_parts : (a b d : Data) (ds : Items) → ds ≡ item a (item b (item d no_items)) → (cache key value : List ℕ) → IsTextOf IsName a cache → IsTextOf IsKey b key → IsTextOf IsValue d value
+    → IsAsked names.Put ds (requests.Put cache key value)
+put_of_parts a b d ds are cache key value c k v = record { name_is = refl; items = are ∙ (λ i. item (c.is i) (item (k.is i) (item (v.is i) no_items))); limits = (c.limits, k.limits, v.limits) }
+
+pub put_all_parts : (a b : Data) (ds : Items) → ds ≡ item a (item b no_items) → (request : Request) → IsAsked names.PutAll ds request
+    → ((cache : List ℕ) × IsTextOf IsName a cache) × ((pairs : List (List ℕ × List ℕ)) × ArePairsOf b pairs)
+put_all_parts a b ds are request asked =
+    let own = asked_by names.PutAll ds request asked in
+    let pairs : List (List ℕ × List ℕ) = pairs_in (items_in (first (others ds))) in
+    let same : item a (item b no_items) ≡ item (string (text_of (first ds))) (item (array (pair_items pairs)) no_items) = sym are ∙ own.items in
+    ((text_of (first ds), record { is = cc; limits = own.limits.0 }), (pairs, record { are = cc; limits = own.limits.1 }))
+
+pub put_all_of_parts : (a b : Data) (ds : Items) → ds ≡ item a (item b no_items) → (cache : List ℕ) (pairs : List (List ℕ × List ℕ)) → IsTextOf IsName a cache → ArePairsOf b pairs → IsAsked names.PutAll ds (requests.PutAll cache pairs)
+put_all_of_parts a b ds are cache pairs c p = record { name_is = refl; items = are ∙ (λ i. item (c.is i) (item (p.are i) no_items)); limits = (c.limits, p.limits) }
+
+-- ---- a cache, and a key
+
+pub cache_and_key_parts : (a b : Data) (ds : Items) → ds ≡ item a (item b no_items) → (found : List ℕ × List ℕ) → AreCacheAndKey ds found → IsTextOf IsName a found.0 × IsTextOf IsKey b found.1
+cache_and_key_parts a b ds are found both =
+    let same : item a (item b no_items) ≡ item (string found.0) (item (string found.1) no_items) = sym are ∙ both.are in
+    (record { is = cc; limits = both.limits.0 }, record { is = cc; limits = both.limits.1 })

@@ -1,6 +1,7 @@
 -- Objects and lists are known by their members and items.
-use Rattle.std.proofs.Common.{◌≡◌, ℕ, ◌⊎◌, List, [], ◌∷◌, length, get_or, codes, Some, Option, Ordering, Less, Equal, Greater, string_bytes, string_cmp, nat_cmp, is_eq, refl, sym, ap, ◌∙◌, subst, inl, inr, arith}
+use Rattle.std.proofs.Common.{◌≡◌, ℕ, ◌-◌, ◌≤◌, ◌⊎◌, List, [], ◌∷◌, length, get_or, take, drop, codes, Some, Option, Ordering, Less, Equal, Greater, string_bytes, string_cmp, nat_cmp, is_eq, refl, sym, ap, ◌∙◌, subst, inl, inr, arith}
 use Rattle.std.proofs.lemmas.Cmp.{nat_list_cmp_total, tied_itself}
+use Rattle.std.proofs.lemmas.List.{take_rest}
 use Rattle.std.proofs.lemmas.Map.Text.{is_eq-slice_cmp}
 use Rattle.std.proofs.lemmas.Slice.Eq.{bytes_eq-Decides}
 use Rattle.std.specs.Cmp.Lexicographic.{slice_cmp}
@@ -8,13 +9,13 @@ use Rattle.std.specs.List.{AllByRecursion}
 use Rattle.std.specs.List.Sorted.{IsStrictlySortedBy}
 use Rattle.std.specs.Map.{keys_of}
 use Rattle.std.specs.Ordering.{match_ordering, ordering_reverse}
-use Rattle.serde_json.specs.Data.{Data, null, boolean, number, string, array, object, Items, Members, no_members, member}
+use Rattle.serde_json.specs.Data.{Data, null, boolean, number, string, array, object, Items, no_items, item, Members, no_members, member}
 use Rattle.serde_json.specs.Find.{get, get_member, as_array, as_object}
-use Rattle.serde_json.specs.Events.{members_len}
+use Rattle.serde_json.specs.Events.{items_len, members_len}
 use Rattle.serde_json.specs.View.{view, items_view, members_view}
 use Rattle.serde_json.specs.declared.value.Value.{Value}
-use Rattle.serde_json.proofs.Views.{Entry, members_len-members_view}
-use Rattle.script_lines.specs.Reading.{list_of_one, list_of_three, list_of_four, object_of_two, member_count_of, IsBefore, AreInOrder, IsInOrder}
+use Rattle.serde_json.proofs.Views.{Entry, items_len-items_view, members_len-members_view}
+use Rattle.script_lines.specs.Reading.{list_of_one, object_of_two, member_count_of, IsBefore, AreInOrder, IsInOrder}
 
 -- ---- objects
 
@@ -135,30 +136,40 @@ as_array-array (string s) ds e = cc
 as_array-array (array es) ds e = cc
 as_array-array (object ms) ds e = cc
 
-not_one_item : (vs : List Value) (a : Data) → (length vs ≡ 1 → ⊥) → array (items_view vs) ≡ list_of_one a → ⊥
-not_one_item [] a many is = cc
-not_one_item (x ∷ []) a many is = many refl
-not_one_item (x ∷ y ∷ vs) a many is = cc
+-- items are as many as the values that they show
+pub items_counted : (vs : List Value) (ds : Items) → items_view vs ≡ ds → length vs ≡ items_len ds
+items_counted vs ds is = sym (items_len-items_view vs) ∙ ap items_len is
+
+pub array_items : (vs : List Value) (ds : Items) → array (items_view vs) ≡ array ds → items_view vs ≡ ds
+array_items vs ds is = cc
 
 -- a list with another number of items is no list of one
 pub not_of_one : (d : Data) (vs : List Value) (a : Data) → d ≡ array (items_view vs) → (length vs ≡ 1 → ⊥) → d ≡ list_of_one a → ⊥
-not_of_one d vs a there many is = not_one_item vs a many (sym there ∙ is)
+not_of_one d vs a there many is = many (items_counted vs (item a no_items) (array_items vs (item a no_items) (sym there ∙ is)))
 
--- a list of three is known by its items
-pub three_items : (vs : List Value) (a b c : Value) → length vs ≡ 3 → a ≡ get_or vs 0 a → b ≡ get_or vs 1 b → c ≡ get_or vs 2 c
-    → array (items_view vs) ≡ list_of_three (view a) (view b) (view c)
+-- a list is known by its items
+pub one_item : (vs : List Value) (a : Value) → length vs ≡ 1 → a ≡ get_or vs 0 a → items_view vs ≡ item (view a) no_items
+one_item [] a count at_0 = absurd (omega arith)
+one_item (x ∷ []) a count at_0 = cc
+one_item (x ∷ y ∷ vs) a count at_0 = absurd (omega arith)
+
+pub two_items : (vs : List Value) (a b : Value) → length vs ≡ 2 → a ≡ get_or vs 0 a → b ≡ get_or vs 1 b → items_view vs ≡ item (view a) (item (view b) no_items)
+two_items [] a b count at_0 at_1 = absurd (omega arith)
+two_items (x ∷ []) a b count at_0 at_1 = absurd (omega arith)
+two_items (x ∷ y ∷ []) a b count at_0 at_1 = cc
+two_items (x ∷ y ∷ z ∷ vs) a b count at_0 at_1 = absurd (omega arith)
+
+pub three_items : (vs : List Value) (a b c : Value) → length vs ≡ 3 → a ≡ get_or vs 0 a → b ≡ get_or vs 1 b → c ≡ get_or vs 2 c → items_view vs ≡ item (view a) (item (view b) (item (view c) no_items))
 three_items [] a b c count at_0 at_1 at_2 = absurd (omega arith)
 three_items (x ∷ []) a b c count at_0 at_1 at_2 = absurd (omega arith)
 three_items (x ∷ y ∷ []) a b c count at_0 at_1 at_2 = absurd (omega arith)
 three_items (x ∷ y ∷ z ∷ []) a b c count at_0 at_1 at_2 = cc
 three_items (x ∷ y ∷ z ∷ w ∷ vs) a b c count at_0 at_1 at_2 = absurd (omega arith)
 
--- a list of four is known by its items
-pub four_items : (vs : List Value) (a b c d : Value) → length vs ≡ 4 → a ≡ get_or vs 0 a → b ≡ get_or vs 1 b → c ≡ get_or vs 2 c → d ≡ get_or vs 3 d
-    → array (items_view vs) ≡ list_of_four (view a) (view b) (view c) (view d)
-four_items [] a b c d count at_0 at_1 at_2 at_3 = absurd (omega arith)
-four_items (x ∷ []) a b c d count at_0 at_1 at_2 at_3 = absurd (omega arith)
-four_items (x ∷ y ∷ []) a b c d count at_0 at_1 at_2 at_3 = absurd (omega arith)
-four_items (x ∷ y ∷ z ∷ []) a b c d count at_0 at_1 at_2 at_3 = absurd (omega arith)
-four_items (x ∷ y ∷ z ∷ w ∷ []) a b c d count at_0 at_1 at_2 at_3 = cc
-four_items (x ∷ y ∷ z ∷ w ∷ v ∷ vs) a b c d count at_0 at_1 at_2 at_3 = absurd (omega arith)
+-- the first item, and the ones after it
+pub first_and_others : (vs : List Value) (a : Value) → 1 ≤ length vs → a ≡ get_or vs 0 a → items_view vs ≡ item (view a) (items_view (take (length vs - 1) (drop 1 vs)))
+first_and_others vs a some at_0 = cut vs a some at_0 ∙ ap (λ ws. item (view a) (items_view ws)) (sym (take_rest vs 1))
+  where
+    cut : (vs : List Value) (a : Value) → 1 ≤ length vs → a ≡ get_or vs 0 a → items_view vs ≡ item (view a) (items_view (drop 1 vs))
+    cut [] a some at_0 = absurd (omega arith)
+    cut (x ∷ vs) a some at_0 = cc

@@ -1,21 +1,39 @@
 -- The JSON object of each command, with exactly these members, and the lines that are commands. Texts are their bytes.
-use Rattle.std.specs.Prelude.{◌≡◌, ℕ, List, [], ◌∷◌, Some, codes}
+use Rattle.std.specs.Prelude.{◌≡◌, ℕ, ◌≤◌, List, [], ◌∷◌, length, Some, codes, All}
 use Rattle.std.specs.List.{AllByRecursion}
 use Rattle.std.specs.Str.{IsUtf8}
 use Rattle.serde_json.specs.Data.{Data, string, array, object, Items, no_items, item, no_members, member}
 use Rattle.serde_json.specs.Read.{read}
-use Rattle.cache_key.specs.Names.{IsName, IsKey, IsValue}
+use Rattle.cache_key.specs.Names.{IsName, IsKey, IsValue, IsPair, most_pairs}
 use Rattle.cache_key.specs.declared.request.Request.{Request}
-use Rattle.cache_key.specs.declared.request.Request.TheVariants.{Get, Put}
+use Rattle.cache_key.specs.declared.request.Request.TheVariants.{Get, Put, Remove, Size, Ensure, Truncate, Destroy, PutAll}
 use Rattle.script_lines.specs.declared.command.Command.{Command}
 use Rattle.script_lines.specs.declared.command.Command.TheVariants.{Create, Dump, Steps, Stop, Recover}
 use Rattle.script_lines.specs.declared.command.Event.{Event}
 use Rattle.script_lines.specs.declared.command.Event.TheVariants.{Call}
 
--- a request is a list: its name, the cache, the key, and what is put there
+-- a list that begins with this name
+abbrev pub named_list : List ℕ → Items → Data
+named_list name items = array (item (string name) items)
+
+-- a pair is the list of its key and its value
+abbrev pub pair_data : List ℕ × List ℕ → Data
+pair_data pair = array (item (string pair.0) (item (string pair.1) no_items))
+
+abbrev pub pair_items : List (List ℕ × List ℕ) → Items
+pair_items [] = no_items
+pair_items (pair ∷ pairs) = item (pair_data pair) (pair_items pairs)
+
+-- a request is a list: its name, the cache, and what else it takes
 abbrev pub request_data : Request → Data
-request_data (Get cache key) = array (item (string (codes "get")) (item (string cache) (item (string key) no_items)))
-request_data (Put cache key value) = array (item (string (codes "put")) (item (string cache) (item (string key) (item (string value) no_items))))
+request_data (Get cache key) = named_list (codes "get") (item (string cache) (item (string key) no_items))
+request_data (Put cache key value) = named_list (codes "put") (item (string cache) (item (string key) (item (string value) no_items)))
+request_data (Remove cache key) = named_list (codes "remove") (item (string cache) (item (string key) no_items))
+request_data (Size cache) = named_list (codes "size") (item (string cache) no_items)
+request_data (Ensure cache) = named_list (codes "ensure") (item (string cache) no_items)
+request_data (Truncate cache) = named_list (codes "truncate") (item (string cache) no_items)
+request_data (Destroy cache) = named_list (codes "destroy") (item (string cache) no_items)
+request_data (PutAll cache pairs) = named_list (codes "putAll") (item (string cache) (item (array (pair_items pairs)) no_items))
 
 -- an event that asks a cache is the list of the request
 abbrev pub event_data : Event → Data
@@ -33,10 +51,22 @@ command_data (Steps events) = object (member (codes "do") (string (codes "steps"
 command_data Stop = object (member (codes "do") (string (codes "stop")) no_members)
 command_data (Recover host) = object (member (codes "do") (string (codes "recover")) (member (codes "hosts") (array (item (string host) no_items)) no_members))
 
--- the name, the key and the value of a request keep their limits
+-- there are 1 to 64 pairs, and each key and value keeps its limits
+pub record ArePairs (pairs : List (List ℕ × List ℕ)) : Type 0 where
+  pub least : 1 ≤ length pairs
+  pub most : length pairs ≤ most_pairs
+  pub each : All IsPair pairs
+
+-- the texts of a request keep their limits, and so do its pairs
 abbrev pub RequestKeepsLimits : Request → Type 0
 RequestKeepsLimits (Get cache key) = IsName cache × IsKey key
 RequestKeepsLimits (Put cache key value) = IsName cache × IsKey key × IsValue value
+RequestKeepsLimits (Remove cache key) = IsName cache × IsKey key
+RequestKeepsLimits (Size cache) = IsName cache
+RequestKeepsLimits (Ensure cache) = IsName cache
+RequestKeepsLimits (Truncate cache) = IsName cache
+RequestKeepsLimits (Destroy cache) = IsName cache
+RequestKeepsLimits (PutAll cache pairs) = IsName cache × ArePairs pairs
 
 abbrev pub EventKeepsLimits : Event → Type 0
 EventKeepsLimits (Call request) = RequestKeepsLimits request

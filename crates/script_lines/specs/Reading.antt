@@ -1,29 +1,26 @@
 -- The results of reading a line, part by part, for private clauses.
-use Rattle.std.specs.Prelude.{◌≡◌, ℕ, List, Result, Ok, Err}
+use Rattle.std.specs.Prelude.{◌≡◌, ℕ, List, Result, Ok, Err, codes}
 use Rattle.std.specs.Ordering.{nat_cmp}
 use Rattle.std.specs.Cmp.Lexicographic.{slice_cmp}
 use Rattle.std.specs.declared.cmp.Ordering.TheVariants.{Less}
 use Rattle.std.specs.List.{AllByRecursion}
 use Rattle.serde_json.specs.Data.{Data, null, boolean, number, string, array, object, Items, no_items, item, Members, no_members, member}
 use Rattle.serde_json.specs.Events.{members_len}
-use Rattle.cache_key.specs.Names.{IsName}
+use Rattle.cache_key.specs.Names.{IsName, IsKey, IsPair}
 use Rattle.cache_key.specs.declared.request.Request.{Request}
-use Rattle.script_lines.specs.Form.{request_data, event_data, events_data, command_data, RequestKeepsLimits, EventKeepsLimits, KeepsLimits}
+use Rattle.cache_key.specs.declared.request.Request.TheVariants as requests
+use Rattle.script_lines.specs.Form.{pair_data, pair_items, request_data, event_data, events_data, command_data, ArePairs, RequestKeepsLimits, EventKeepsLimits, KeepsLimits}
 use Rattle.script_lines.specs.declared.command.Command.{Command}
 use Rattle.script_lines.specs.declared.command.Event.{Event}
 use Rattle.script_lines.specs.declared.fault.LineFault.{LineFault}
 use Rattle.script_lines.specs.declared.fault.LineFault.TheVariants.{Form, NoMemory}
+use Rattle.script_lines.specs.declared.reason.EventName.{EventName}
+use Rattle.script_lines.specs.declared.reason.EventName.TheVariants as names
 
 -- ---- shapes
 
 abbrev pub list_of_one : Data → Data
 list_of_one a = array (item a no_items)
-
-abbrev pub list_of_three : Data → Data → Data → Data
-list_of_three a b c = array (item a (item b (item c no_items)))
-
-abbrev pub list_of_four : Data → Data → Data → Data → Data
-list_of_four a b c d = array (item a (item b (item c (item d no_items))))
 
 abbrev pub object_of_two : List ℕ → Data → List ℕ → Data → Data
 object_of_two first a second b = object (member first a (member second b no_members))
@@ -49,6 +46,64 @@ pub record IsOnlyHostOf (d : Data) (host : List ℕ) : Type 0 where
 pub record IsRequestOf (d : Data) (request : Request) : Type 0 where
   pub is : d ≡ request_data request
   pub limits : RequestKeepsLimits request
+
+-- the name of an event, as it stands in a line
+abbrev pub event_word : EventName → List ℕ
+event_word names.Get = codes "get"
+event_word names.Put = codes "put"
+event_word names.Remove = codes "remove"
+event_word names.Size = codes "size"
+event_word names.Ensure = codes "ensure"
+event_word names.Truncate = codes "truncate"
+event_word names.Destroy = codes "destroy"
+event_word names.PutAll = codes "putAll"
+
+-- the name of a request, and the items after it
+abbrev pub request_name : Request → EventName
+request_name (requests.Get cache key) = names.Get
+request_name (requests.Put cache key value) = names.Put
+request_name (requests.Remove cache key) = names.Remove
+request_name (requests.Size cache) = names.Size
+request_name (requests.Ensure cache) = names.Ensure
+request_name (requests.Truncate cache) = names.Truncate
+request_name (requests.Destroy cache) = names.Destroy
+request_name (requests.PutAll cache pairs) = names.PutAll
+
+abbrev pub request_items : Request → Items
+request_items (requests.Get cache key) = item (string cache) (item (string key) no_items)
+request_items (requests.Put cache key value) = item (string cache) (item (string key) (item (string value) no_items))
+request_items (requests.Remove cache key) = item (string cache) (item (string key) no_items)
+request_items (requests.Size cache) = item (string cache) no_items
+request_items (requests.Ensure cache) = item (string cache) no_items
+request_items (requests.Truncate cache) = item (string cache) no_items
+request_items (requests.Destroy cache) = item (string cache) no_items
+request_items (requests.PutAll cache pairs) = item (string cache) (item (array (pair_items pairs)) no_items)
+
+-- the request has this name and these items after it
+pub record IsAsked (name : EventName) (ds : Items) (request : Request) : Type 0 where
+  pub name_is : request_name request ≡ name
+  pub items : ds ≡ request_items request
+  pub limits : RequestKeepsLimits request
+
+-- these items are the name of a cache alone
+pub record IsOneCache (ds : Items) (cache : List ℕ) : Type 0 where
+  pub are : ds ≡ item (string cache) no_items
+  pub limits : IsName cache
+
+-- these items are the name of a cache and a key
+pub record AreCacheAndKey (ds : Items) (found : List ℕ × List ℕ) : Type 0 where
+  pub are : ds ≡ item (string found.0) (item (string found.1) no_items)
+  pub limits : IsName found.0 × IsKey found.1
+
+-- the list of a pair stands there
+pub record IsPairOf (d : Data) (pair : List ℕ × List ℕ) : Type 0 where
+  pub is : d ≡ pair_data pair
+  pub limits : IsPair pair
+
+-- the list of the pairs stands there
+pub record ArePairsOf (d : Data) (pairs : List (List ℕ × List ℕ)) : Type 0 where
+  pub are : d ≡ array (pair_items pairs)
+  pub limits : ArePairs pairs
 
 pub record IsEventOf (d : Data) (event : Event) : Type 0 where
   pub is : d ≡ event_data event

@@ -1,7 +1,7 @@
 //! Finds the reason for which a line is no command. No clause speaks of a reason: the callers' clauses say that the line
 //! is no command.
 ghost use Rattle.std.specs.Prelude.{◌≡◌};
-ghost use Rattle.script_lines.specs.Faults.{IsFaultOf, IsFaultOfText};
+ghost use Rattle.script_lines.specs.Faults.{IsFaultOf, IsFaultOfText, IsOfForm};
 
 use crate::fault::LineFault;
 use crate::reason::{CommandName, EventName, LineReason, MOST_DEPTH, Part};
@@ -66,25 +66,15 @@ pub(crate) fn command_reason(name: &str, value: &Json) -> LineReason {
     }
 }
 
-/// Why the list of this event is no request, by its name or its number of items.
-pub(crate) fn event_reason(items: &[Json], event: usize) -> LineReason {
-    let [name, others @ ..] = items else {
-        return LineReason::EmptyEvent { event };
-    };
-    let Some(name) = name.as_str() else {
-        return LineReason::NotText {
-            part: Part::EventName { event },
-        };
-    };
-    match EventName::of(name) {
-        Some(name) => LineReason::ItemCount {
+/// The fault of an event that has another number of items after its name.
+pub(crate) fn item_count(event: usize, name: EventName, others: &[Json]) -> LineFault
+    ensures { IsOfForm result }
+{
+    LineFault::Form {
+        reason: LineReason::ItemCount {
             event,
             name,
             count: others.len(),
-        },
-        None => LineReason::UnknownEvent {
-            event,
-            found: Excerpt::of(name),
         },
     }
 }

@@ -13,6 +13,7 @@ mod command;
 mod events;
 mod explain;
 mod fault;
+mod pairs;
 mod read;
 mod reason;
 mod requests;

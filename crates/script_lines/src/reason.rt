@@ -1,5 +1,5 @@
 //! Why a line is no command, in words for a person.
-use cache_key::{Excerpt, TextReason};
+use cache_key::{Excerpt, MOST_PAIRS, TextReason};
 use std::fmt;
 
 /// Lists and objects nest at most this deep.
@@ -7,7 +7,8 @@ pub(crate) const MOST_DEPTH: u32 = 127;
 
 /// Why a line is no command.
 ///
-/// Columns count bytes from 1, and `event` counts events from 1. Of several members with one name the last one counts.
+/// Columns count bytes from 1. `event` counts events from 1, and `pair` the pairs of an event. Of several members with one
+/// name the last one counts.
 #[derive(Clone, Copy, Debug, Drop)]
 pub enum LineReason {
     /// It begins with a byte-order mark.
@@ -81,6 +82,17 @@ pub enum LineReason {
         name: EventName,
         count: usize,
     },
+    /// This event has this many pairs, none or too many.
+    PairCount {
+        event: usize,
+        count: usize,
+    },
+    /// This pair of the event has this many items, too few or too many.
+    PairItemCount {
+        event: usize,
+        pair: usize,
+        count: usize,
+    },
 }
 
 /// A part of a line.
@@ -106,6 +118,14 @@ pub enum Part {
     Key { event: usize },
     /// The value of an event.
     Value { event: usize },
+    /// The list of pairs of an event.
+    Pairs { event: usize },
+    /// A pair of an event.
+    Pair { event: usize, pair: usize },
+    /// The key of a pair.
+    PairKey { event: usize, pair: usize },
+    /// The value of a pair.
+    PairValue { event: usize, pair: usize },
 }
 
 /// The name of a command.
@@ -123,6 +143,12 @@ pub enum CommandName {
 pub enum EventName {
     Get,
     Put,
+    Remove,
+    Size,
+    Ensure,
+    Truncate,
+    Destroy,
+    PutAll,
 }
 
 impl CommandName {
@@ -140,11 +166,23 @@ impl CommandName {
 }
 
 impl EventName {
+    ghost use Rattle.std.specs.Prelude.{◌≡◌, MatchOption};
+    ghost use Rattle.script_lines.specs.Reading.{event_word};
+    ghost use Rattle.script_lines.specs.declared.reason.EventName.{EventName};
+
     /// The event of this name, if there is one.
-    pub(crate) fn of(name: &str) -> Option<Self> {
+    pub(crate) fn of(name: &str) -> Option<Self>
+        ensures { MatchOption result ((other : EventName) → name.now ≡ event_word other → ⊥) (λ found. name.now ≡ event_word found) }
+    {
         match name {
             "get" => Some(EventName::Get),
             "put" => Some(EventName::Put),
+            "remove" => Some(EventName::Remove),
+            "size" => Some(EventName::Size),
+            "ensure" => Some(EventName::Ensure),
+            "truncate" => Some(EventName::Truncate),
+            "destroy" => Some(EventName::Destroy),
+            "putAll" => Some(EventName::PutAll),
             _ => None,
         }
     }
@@ -188,11 +226,21 @@ impl fmt::Display for LineReason {
             LineReason::EmptyEvent { event } => write!(f, "event {event} is empty"),
             LineReason::UnknownEvent { event, found } => write!(
                 f,
-                "event {event} has the unknown name {found}; the events are get, put"
+                "event {event} has the unknown name {found}; the events are get, put, remove, size, ensure, truncate, destroy, putAll"
             ),
             LineReason::ItemCount { event, name, count } => {
                 write!(f, "event {event} needs {name}, and has {count}")
             }
+            LineReason::PairCount { event, count } => {
+                write!(
+                    f,
+                    "event {event} needs 1 to {MOST_PAIRS} pairs, and has {count}"
+                )
+            }
+            LineReason::PairItemCount { event, pair, count } => write!(
+                f,
+                "pair {pair} of event {event} needs 2 items, the key and the value, and has {count}"
+            ),
         }
     }
 }
@@ -210,6 +258,12 @@ impl fmt::Display for Part {
             Part::Cache { event } => write!(f, "the cache of event {event}"),
             Part::Key { event } => write!(f, "the key of event {event}"),
             Part::Value { event } => write!(f, "the value of event {event}"),
+            Part::Pairs { event } => write!(f, "the third item of event {event}"),
+            Part::Pair { event, pair } => write!(f, "pair {pair} of event {event}"),
+            Part::PairKey { event, pair } => write!(f, "the key of pair {pair} of event {event}"),
+            Part::PairValue { event, pair } => {
+                write!(f, "the value of pair {pair} of event {event}")
+            }
         }
     }
 }
@@ -233,6 +287,17 @@ impl fmt::Display for EventName {
             EventName::Get => write!(f, "2 items after \"get\", the cache and the key"),
             EventName::Put => {
                 write!(f, "3 items after \"put\", the cache, the key and the value")
+            }
+            EventName::Remove => write!(f, "2 items after \"remove\", the cache and the key"),
+            EventName::Size => write!(f, "1 item after \"size\", the cache"),
+            EventName::Ensure => write!(f, "1 item after \"ensure\", the cache"),
+            EventName::Truncate => write!(f, "1 item after \"truncate\", the cache"),
+            EventName::Destroy => write!(f, "1 item after \"destroy\", the cache"),
+            EventName::PutAll => {
+                write!(
+                    f,
+                    "2 items after \"putAll\", the cache and the list of pairs"
+                )
             }
         }
     }

@@ -1,14 +1,13 @@
 //! Reading the request of an event.
-ghost use Rattle.std.specs.Prelude.{codes};
-ghost use Rattle.serde_json.specs.Data.{string};
-ghost use Rattle.serde_json.specs.View.{view};
-ghost use Rattle.script_lines.specs.Reading.{Reads, IsRequestOf, list_of_three, list_of_four};
+ghost use Rattle.serde_json.specs.View.{view, items_view};
+ghost use Rattle.script_lines.specs.Reading.{Reads, IsRequestOf, IsAsked, IsOneCache, AreCacheAndKey};
 
-use crate::explain::event_reason;
+use crate::explain::item_count;
 use crate::fault::LineFault;
-use crate::reason::{LineReason, Part};
-use crate::texts::{cache_of, is_text, key_of, value_of};
-use cache_key::Request;
+use crate::pairs::pairs_of;
+use crate::reason::{EventName, LineReason, Part};
+use crate::texts::{cache_of, key_of, value_of};
+use cache_key::{CacheName, Excerpt, Key, Request};
 use serde_json::Value as Json;
 use std::alloc::Global;
 
@@ -24,36 +23,139 @@ pub(crate) fn request_of(alloc: Global, value: &Json, event: usize) -> Result<Re
             },
         });
     };
-    match items.as_slice() {
-        [name, cache, key] if is_text(name, "get") => get_of(alloc, cache, key, event),
-        [name, cache, key, value] if is_text(name, "put") => put_of(
-            alloc, cache, key, value, event,
-        ),
-        _ => Err(LineFault::Form {
-            reason: event_reason(items, event),
-        }),
+    let [name, others @ ..] = items.as_slice() else {
+        return Err(LineFault::Form {
+            reason: LineReason::EmptyEvent { event },
+        });
+    };
+    let Some(word) = name.as_str() else {
+        return Err(LineFault::Form {
+            reason: LineReason::NotText {
+                part: Part::EventName { event },
+            },
+        });
+    };
+    let Some(name) = EventName::of(word) else {
+        return Err(LineFault::Form {
+            reason: LineReason::UnknownEvent {
+                event,
+                found: Excerpt::of(word),
+            },
+        });
+    };
+    asked(alloc, name, others, event)
+}
+
+/// The request of this name, by the items after the name.
+fn asked(
+    alloc: Global,
+    name: EventName,
+    others: &[Json],
+    event: usize,
+) -> Result<Request, LineFault>
+    ensures { Reads (IsAsked name (items_view others.now)) result }
+{
+    match name {
+        EventName::Get => get_of(alloc, others, event),
+        EventName::Put => put_of(alloc, others, event),
+        EventName::Remove => remove_of(alloc, others, event),
+        EventName::Size => size_of(alloc, others, event),
+        EventName::Ensure => ensure_of(alloc, others, event),
+        EventName::Truncate => truncate_of(alloc, others, event),
+        EventName::Destroy => destroy_of(alloc, others, event),
+        EventName::PutAll => put_all_of(alloc, others, event),
     }
 }
 
-fn get_of(alloc: Global, cache: &Json, key: &Json, event: usize) -> Result<Request, LineFault>
-    ensures { Reads (IsRequestOf (list_of_three (string (codes "get")) (view cache.now) (view key.now))) result }
+fn get_of(alloc: Global, others: &[Json], event: usize) -> Result<Request, LineFault>
+    ensures { Reads (IsAsked EventName.Get (items_view others.now)) result }
 {
-    let cache = cache_of(alloc, cache, Part::Cache { event })?;
-    let key = key_of(alloc, key, Part::Key { event })?;
+    let (cache, key) = cache_and_key(alloc, EventName::Get, others, event)?;
     Ok(Request::Get(cache, key))
 }
 
-fn put_of(
-    alloc: Global,
-    cache: &Json,
-    key: &Json,
-    value: &Json,
-    event: usize,
-) -> Result<Request, LineFault>
-    ensures { Reads (IsRequestOf (list_of_four (string (codes "put")) (view cache.now) (view key.now) (view value.now))) result }
+fn put_of(alloc: Global, others: &[Json], event: usize) -> Result<Request, LineFault>
+    ensures { Reads (IsAsked EventName.Put (items_view others.now)) result }
 {
+    let [cache, key, value] = others else {
+        return Err(item_count(event, EventName::Put, others));
+    };
     let cache = cache_of(alloc, cache, Part::Cache { event })?;
     let key = key_of(alloc, key, Part::Key { event })?;
     let value = value_of(alloc, value, Part::Value { event })?;
     Ok(Request::Put(cache, key, value))
+}
+
+fn remove_of(alloc: Global, others: &[Json], event: usize) -> Result<Request, LineFault>
+    ensures { Reads (IsAsked EventName.Remove (items_view others.now)) result }
+{
+    let (cache, key) = cache_and_key(alloc, EventName::Remove, others, event)?;
+    Ok(Request::Remove(cache, key))
+}
+
+fn size_of(alloc: Global, others: &[Json], event: usize) -> Result<Request, LineFault>
+    ensures { Reads (IsAsked EventName.Size (items_view others.now)) result }
+{
+    Ok(Request::Size(one_cache(alloc, EventName::Size, others, event)?))
+}
+
+fn ensure_of(alloc: Global, others: &[Json], event: usize) -> Result<Request, LineFault>
+    ensures { Reads (IsAsked EventName.Ensure (items_view others.now)) result }
+{
+    Ok(Request::Ensure(one_cache(alloc, EventName::Ensure, others, event)?))
+}
+
+fn truncate_of(alloc: Global, others: &[Json], event: usize) -> Result<Request, LineFault>
+    ensures { Reads (IsAsked EventName.Truncate (items_view others.now)) result }
+{
+    Ok(Request::Truncate(one_cache(alloc, EventName::Truncate, others, event)?))
+}
+
+fn destroy_of(alloc: Global, others: &[Json], event: usize) -> Result<Request, LineFault>
+    ensures { Reads (IsAsked EventName.Destroy (items_view others.now)) result }
+{
+    Ok(Request::Destroy(one_cache(alloc, EventName::Destroy, others, event)?))
+}
+
+fn put_all_of(alloc: Global, others: &[Json], event: usize) -> Result<Request, LineFault>
+    ensures { Reads (IsAsked EventName.PutAll (items_view others.now)) result }
+{
+    let [cache, pairs] = others else {
+        return Err(item_count(event, EventName::PutAll, others));
+    };
+    let cache = cache_of(alloc, cache, Part::Cache { event })?;
+    let pairs = pairs_of(alloc, pairs, event)?;
+    Ok(Request::PutAll(cache, pairs))
+}
+
+/// The cache, if it is the one item after the name.
+fn one_cache(
+    alloc: Global,
+    name: EventName,
+    others: &[Json],
+    event: usize,
+) -> Result<CacheName, LineFault>
+    ensures { Reads (IsOneCache (items_view others.now)) result }
+{
+    let [cache] = others else {
+        return Err(item_count(event, name, others));
+    };
+    cache_of(alloc, cache, Part::Cache { event })
+}
+
+/// The cache and the key, if they are the items after the name.
+fn cache_and_key(
+    alloc: Global,
+    name: EventName,
+    others: &[Json],
+    event: usize,
+) -> Result<(CacheName, Key), LineFault>
+    ensures { Reads (AreCacheAndKey (items_view others.now)) result }
+{
+    let [cache, key] = others else {
+        return Err(item_count(event, name, others));
+    };
+    let cache = cache_of(alloc, cache, Part::Cache { event })?;
+    let key = key_of(alloc, key, Part::Key { event })?;
+    Ok((cache, key))
 }

@@ -1,6 +1,4 @@
 //! Reading names, keys and values.
-ghost use Rattle.std.specs.Prelude.{◌≡◌, ◌↔◌, IsTrue};
-ghost use Rattle.serde_json.specs.Data.{string};
 ghost use Rattle.serde_json.specs.View.{view};
 ghost use Rattle.cache_key.specs.Names.{IsName, IsKey, IsValue};
 ghost use Rattle.script_lines.specs.Reading.{Reads, IsTextOf, IsOnlyHostOf};
@@ -88,15 +86,5 @@ pub(crate) fn value_of(alloc: Global, value: &Json, part: Part) -> Result<Value,
     match Value::of(alloc, text) {
         Ok(made) => Ok(made),
         Err(fault) => Err(text_fault(fault, text, MOST_VALUE_BYTES, part)),
-    }
-}
-
-/// Whether the value is this text.
-pub(crate) fn is_text(value: &Json, text: &str) -> bool
-    ensures { IsTrue result ↔ (view value.now ≡ string text.now) }
-{
-    match value.as_str() {
-        Some(found) => found == text,
-        None => false,
     }
 }

@@ -12,13 +12,12 @@ use Rattle.record_form.specs.declared.fault.RecordFault.{RecordFault}
 use Rattle.record_form.specs.declared.header.Header.{Header}
 use Rattle.record_form.specs.HeaderFault.{header_in, header_fault}
 use Rattle.record_form.proofs.HeaderLemmas.{header_fault-header_text, header_in-header_text}
-use Rattle.record_form.specs.GroupText.{IsGroup, group_text}
+use Rattle.record_form.specs.GroupText.{IsGroup, group_text, most_group_bytes}
 use Rattle.record_form.specs.GroupFault.{group_fault}
-use Rattle.record_form.proofs.GroupFound.{group_found}
-use Rattle.record_form.proofs.GroupLaws.{group_text-injective}
-use Rattle.record_form.proofs.GroupLemmas.{group_size}
+use Rattle.record_form.proofs.GroupFaultLemmas.{group_found, group_text-injective}
+use Rattle.record_form.proofs.GroupLengthLemmas.{group_size}
 use Rattle.store_journal.specs.Text.{IsText, Records, end_of}
-use Rattle.store_journal.specs.Fault.{offset_if_fault, shifted, ◌or_earlier◌, most_payload_bytes, payload_fault_offset, tail_fault_offset, header_fault_offset, record_fault_offset, IsRecordFault, IsDamagedAt}
+use Rattle.store_journal.specs.Fault.{offset_if_fault, shifted, ◌or_earlier◌, payload_fault_offset, tail_fault_offset, header_fault_offset, record_fault_offset, IsRecordFault, IsDamagedAt}
 use Rattle.store_journal.proofs.TextOnce.{group_fits}
 use Rattle.store_journal.proofs.StandsLemmas.{within_head}
 
@@ -74,11 +73,11 @@ module _ (group : List Mutation) (next : List ℕ) (is : IsGroup group) where
   record_passes gate =
       let size = group_size group is in
       record_tail_passes (gate == 0) (tail_fault_offset text)
-      (tail_passes (nat_lt (length text) 4) (nat_le 1 (number_in text 0 4) && nat_le (number_in text 0 4) most_payload_bytes) (length text) (payload_fault_offset (number_in text 0 4) (drop 4 text))
+      (tail_passes (nat_lt (length text) 4) (nat_le 1 (number_in text 0 4) && nat_le (number_in text 0 4) most_group_bytes) (length text) (payload_fault_offset (number_in text 0 4) (drop 4 text))
       (le-ltb (length text) 4 (omega (arith, length-append (counted32_text payload) next, length-counted_text 4 payload)))
-      (both (nat_le 1 (number_in text 0 4)) (nat_le (number_in text 0 4) most_payload_bytes)
+      (both (nat_le 1 (number_in text 0 4)) (nat_le (number_in text 0 4) most_group_bytes)
       (le-leb 1 (number_in text 0 4) (omega (arith, size_there, size.0)))
-      (le-leb (number_in text 0 4) most_payload_bytes (omega (arith, size_there, size.1))))
+      (le-leb (number_in text 0 4) most_group_bytes (omega (arith, size_there, size.1))))
       ((λ i. payload_fault_offset (size_there i) (rest_there i)) ∙ payload_there))
 
 -- an offset is none

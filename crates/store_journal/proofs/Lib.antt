@@ -9,3 +9,4 @@ pub mod LoadLemmas
 mod CreatedLemmas
 mod AppendLemmas
 mod CreateLemmas
+mod ModelLengthLemmas

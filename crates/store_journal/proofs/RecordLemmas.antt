@@ -1,22 +1,23 @@
 -- ClosedRecords that are read one after the other.
 use Rattle.std.proofs.Common.{◌≡◌, ◌≢◌, ◌↔◌, ◌⊎◌, inl, inr, ℕ, ◌+◌, ◌<◌, ◌≤◌, Bool, true, false, cond, ◌&&◌, nat_lt, nat_le, List, [], ◌∷◌, ◌++◌, length, take, drop, min, Option, None, Some, Result, Ok, Err, IsErrOf, MatchResult, refl, sym, ◌∙◌, ap, subst, arith, append_assoc, length-take, length-drop, take-append-drop}
 use Rattle.std.specs.Prelude.{slice_index}
+use Rattle.std.specs.List.{flat_map}
 use Rattle.std.proofs.lemmas.Bool.{lt-ltb, le-ltb, le-leb, lt-leb, ne_eqb, and_left, and_right}
 use Rattle.std.proofs.lemmas.Grind.{flat_map-append}
-use Rattle.std.proofs.lemmas.List.{drop_more, drop_at, drop_all, drop-drop, take_all}
+use Rattle.std.proofs.lemmas.List.{drop_more, drop_at, drop_all, drop-drop, take_all, append-nil}
 use Rattle.byte_fields.specs.Numbers.{bytes_of, number_in}
 use Rattle.byte_fields.specs.Counted.{counted32_text}
 use Rattle.byte_fields.proofs.NumbersLemmas.{AreBytes}
 use Rattle.cache_key.specs.declared.request.Mutation.{Mutation}
 use Rattle.record_form.specs.declared.fault.RecordFault.{RecordFault}
 use Rattle.record_form.specs.declared.fault.RecordFault.TheVariants as faults
-use Rattle.record_form.specs.GroupText.{IsGroup, IsGroupText, group_text}
+use Rattle.record_form.specs.GroupText.{IsGroup, IsGroupText, group_text, most_group_bytes}
 use Rattle.record_form.specs.GroupFault.{group_fault}
 use Rattle.record_form.proofs.HeaderLemmas.{spelled_on}
-use Rattle.record_form.proofs.GroupFound.{group_found}
+use Rattle.record_form.proofs.GroupFaultLemmas.{group_found}
 use Rattle.store_journal.specs.Text.{Records, end_of}
 use Rattle.record_form.specs.FaultOffset.{offset_of}
-use Rattle.store_journal.specs.Fault.{offset_if_fault, shifted, ◌or_earlier◌, most_payload_bytes, payload_fault_offset, tail_fault_offset, record_fault_offset, IsRecordFault}
+use Rattle.store_journal.specs.Fault.{offset_if_fault, shifted, ◌or_earlier◌, payload_fault_offset, tail_fault_offset, record_fault_offset, IsRecordFault}
 use Rattle.store_journal.specs.Loading.{IsFaultAt, IsRecordsFault, IsRecordAt, AreBefore}
 use Rattle.store_journal.specs.declared.fault.LoadFault.{LoadFault}
 use Rattle.store_journal.specs.declared.fault.LoadFault.TheVariants.{NotSealed, Damaged, Failed, NoMemory}
@@ -54,7 +55,7 @@ module _ (rest : List ℕ) where
   size_there = number_in rest 0 4
 
   abbrev is_sized : Bool
-  is_sized = nat_le 1 size_there && nat_le size_there most_payload_bytes
+  is_sized = nat_le 1 size_there && nat_le size_there most_group_bytes
 
   abbrev payload_there : Option ℕ
   payload_there = shifted 4 (payload_fault_offset size_there (drop 4 rest))
@@ -64,15 +65,15 @@ module _ (rest : List ℕ) where
 
   tail_of_zero : 4 ≤ length rest → size_there < 1 → tail_fault_offset rest ≡ Some 0
   tail_of_zero long none = unsized_tail (nat_lt (length rest) 4) is_sized (Some (length rest)) payload_there (le-ltb (length rest) 4 long)
-      (and_left (nat_le 1 size_there) (nat_le size_there most_payload_bytes) (lt-leb 1 size_there none))
+      (and_left (nat_le 1 size_there) (nat_le size_there most_group_bytes) (lt-leb 1 size_there none))
 
-  tail_of_many : 4 ≤ length rest → most_payload_bytes < size_there → tail_fault_offset rest ≡ Some 0
+  tail_of_many : 4 ≤ length rest → most_group_bytes < size_there → tail_fault_offset rest ≡ Some 0
   tail_of_many long many = unsized_tail (nat_lt (length rest) 4) is_sized (Some (length rest)) payload_there (le-ltb (length rest) 4 long)
-      (and_right (nat_le 1 size_there) (nat_le size_there most_payload_bytes) (lt-leb size_there most_payload_bytes many))
+      (and_right (nat_le 1 size_there) (nat_le size_there most_group_bytes) (lt-leb size_there most_group_bytes many))
 
-  tail_of_size : 4 ≤ length rest → 1 ≤ size_there → size_there ≤ most_payload_bytes → tail_fault_offset rest ≡ payload_there
+  tail_of_size : 4 ≤ length rest → 1 ≤ size_there → size_there ≤ most_group_bytes → tail_fault_offset rest ≡ payload_there
   tail_of_size long least most = sized_tail (nat_lt (length rest) 4) is_sized (Some (length rest)) payload_there (le-ltb (length rest) 4 long)
-      (both (nat_le 1 size_there) (nat_le size_there most_payload_bytes) (le-leb 1 size_there least) (le-leb size_there most_payload_bytes most))
+      (both (nat_le 1 size_there) (nat_le size_there most_group_bytes) (le-leb 1 size_there least) (le-leb size_there most_group_bytes most))
 
 module _ (bytes : List ℕ) (offset : ℕ) (there : offset ≤ length bytes) where
   pub tail_short : length bytes < offset + 4 → shifted offset (tail_fault_offset (drop offset bytes)) ≡ Some (length bytes)
@@ -83,7 +84,7 @@ module _ (bytes : List ℕ) (offset : ℕ) (there : offset ≤ length bytes) whe
   tail_zero long none =
       ap (shifted offset) (tail_of_zero (drop offset bytes) (omega (arith, length-drop offset bytes)) none) ∙ ap Some (omega arith)
 
-  pub tail_many : offset + 4 ≤ length bytes → most_payload_bytes < number_in bytes offset 4 → shifted offset (tail_fault_offset (drop offset bytes)) ≡ Some offset
+  pub tail_many : offset + 4 ≤ length bytes → most_group_bytes < number_in bytes offset 4 → shifted offset (tail_fault_offset (drop offset bytes)) ≡ Some offset
   tail_many long many =
       ap (shifted offset) (tail_of_many (drop offset bytes) (omega (arith, length-drop offset bytes)) many) ∙ ap Some (omega arith)
 
@@ -177,7 +178,7 @@ module _ (bytes : List ℕ) (offset : ℕ) (there : offset < length bytes) (is_o
   pub record_of_tail : (fault : LoadFault) → IsFaultAt (shifted (offset + 1) (tail_fault_offset (drop (offset + 1) bytes))) fault → IsFaultAt (shifted offset (record_fault_offset (drop offset bytes))) fault
   record_of_tail fault is = moved _ _ fault record_there_at is
 
-  module _ (size : ℕ) (long : offset + 1 + 4 ≤ length bytes) (least : 1 ≤ size) (most : size ≤ most_payload_bytes) (sized : size ≡ number_in bytes (offset + 1) 4) where
+  module _ (size : ℕ) (long : offset + 1 + 4 ≤ length bytes) (least : 1 ≤ size) (most : size ≤ most_group_bytes) (sized : size ≡ number_in bytes (offset + 1) 4) where
     five : offset + 1 + 4 ≡ offset + 5
     five = omega arith
 
@@ -194,9 +195,9 @@ module _ (bytes : List ℕ) (offset : ℕ) (there : offset < length bytes) (is_o
     pub record_of_payload : (fault : LoadFault) → IsFaultAt (shifted (offset + 5) (payload_fault_offset size (drop (offset + 5) bytes))) fault → IsFaultAt (shifted offset (record_fault_offset (drop offset bytes))) fault
     record_of_payload fault is = moved _ _ fault (record_there_at ∙ payload_at) is
 
-    pub record_there : (mutation : Mutation) → AreBytes bytes → offset + 5 + size ≤ length bytes → IsGroupText (take size (drop (offset + 5) bytes)) (mutation ∷ []) → IsRecordAt bytes offset mutation (offset + 5 + size)
-    record_there mutation are within is =
-        let payload = group_text (mutation ∷ []) in
+    pub record_there : (group : List Mutation) → AreBytes bytes → offset + 5 + size ≤ length bytes → IsGroupText (take size (drop (offset + 5) bytes)) group → IsRecordAt bytes offset group (offset + 5 + size)
+    record_there group are within is =
+        let payload = group_text group in
         let prefix = take (offset + 1) bytes in
         let following = drop (offset + 5) bytes in
         let counted : prefix ++ bytes_of 4 size ≡ take (offset + 5) bytes = spelled_on bytes prefix (offset + 1) 4 size are long refl (sym sized) ∙ ap (λ (n : ℕ). take n bytes) five in
@@ -231,15 +232,16 @@ end_more : (groups : List (List Mutation)) (group : List Mutation) → end_of (g
 end_more [] group = refl
 end_more (first ∷ groups) group = omega (arith, end_more groups group)
 
-pub one_more : (bytes : List ℕ) (offset : ℕ) (mutations more : List Mutation) (mutation : Mutation) (end : ℕ) → AreBefore bytes offset mutations → IsRecordAt bytes offset mutation end → more ≡ mutations ++ mutation ∷ [] → AreBefore bytes end more
-one_more bytes offset mutations more mutation end before is pushed =
-    let group = mutation ∷ [] in
-    record {
-      groups = before.groups ++ group ∷ [];
-      joined = pushed ∙ ap (λ (l : List Mutation). l ++ group) before.joined ∙ sym (flat_map-append (λ group. group) before.groups (group ∷ []));
-      whole = one_record before.groups group (drop 41 bytes) (drop offset bytes) (drop end bytes) is.gate is.is_open is.group before.whole is.spelled;
-      there = omega (arith, is.there, before.there, end_more before.groups group);
-    }
+joined_more : (groups : List (List Mutation)) (group : List Mutation) → flat_map (λ group. group) (groups ++ group ∷ []) ≡ flat_map (λ group. group) groups ++ group
+joined_more groups group = flat_map-append (λ group. group) groups (group ∷ []) ∙ ap (λ (l : List Mutation). flat_map (λ group. group) groups ++ l) (append-nil group)
+
+pub one_more : (bytes : List ℕ) (offset : ℕ) (mutations more group : List Mutation) (end : ℕ) → AreBefore bytes offset mutations → IsRecordAt bytes offset group end → more ≡ mutations ++ group → AreBefore bytes end more
+one_more bytes offset mutations more group end before is added = record {
+  groups = before.groups ++ group ∷ [];
+  joined = added ∙ ap (λ (l : List Mutation). l ++ group) before.joined ∙ sym (joined_more before.groups group);
+  whole = one_record before.groups group (drop 41 bytes) (drop offset bytes) (drop end bytes) is.gate is.is_open is.group before.whole is.spelled;
+  there = omega (arith, is.there, before.there, end_more before.groups group);
+}
 
 -- what fails after them
 shifted_some : (from at : ℕ) (offset : Option ℕ) → shifted from offset ≡ Some at → (inner : ℕ) × (offset ≡ Some inner) × (at ≡ from + inner)

@@ -5,8 +5,8 @@ use Rattle.byte_fields.proofs.CountedLemmas.{counted_text-injective}
 use Rattle.cache_key.specs.declared.request.Mutation.{Mutation}
 use Rattle.record_form.specs.declared.header.Header.{Header}
 use Rattle.record_form.specs.GroupText.{IsGroup, group_text}
-use Rattle.record_form.proofs.GroupLaws.{group_text-injective}
-use Rattle.record_form.proofs.GroupLemmas.{group_size}
+use Rattle.record_form.proofs.GroupFaultLemmas.{group_text-injective}
+use Rattle.record_form.proofs.GroupLengthLemmas.{group_size}
 use Rattle.record_form.proofs.HeaderLemmas.{header_text-injective}
 use Rattle.store_journal.specs.Text.{IsText, Records}
 

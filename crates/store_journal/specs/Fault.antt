@@ -4,10 +4,9 @@ use Rattle.cache_key.specs.declared.request.Mutation.{Mutation}
 use Rattle.byte_fields.specs.Numbers.{number_in}
 use Rattle.record_form.specs.declared.fault.RecordFault.{RecordFault}
 use Rattle.record_form.specs.FaultOffset.{offset_of}
-use Rattle.record_form.specs.declared.fault.RecordFault.TheVariants.{Short, Tag, Range, Name, NoMemory}
 use Rattle.record_form.specs.HeaderText.{partition_offset, partitions_offset}
 use Rattle.record_form.specs.HeaderFault.{header_fault}
-use Rattle.record_form.specs.GroupText.{closed_gate}
+use Rattle.record_form.specs.GroupText.{closed_gate, most_group_bytes}
 use Rattle.record_form.specs.GroupFault.{group_fault}
 use Rattle.seal_gate.specs.Seal.{IsSealed}
 use Rattle.store_journal.specs.Text.{header_start, header_section, records_section, Records, end_of}
@@ -40,10 +39,6 @@ header_fault_offset bytes partition partitions =
     or_earlier other_number bytes (header_start + partition_offset) partition
     or_earlier other_number bytes (header_start + partitions_offset) partitions
 
--- the most bytes of a record's payload
-abbrev pub most_payload_bytes : ℕ
-most_payload_bytes = 8388608
-
 -- the first offset of a payload of this size at which it is no group: the end of the bytes where they are too few
 abbrev pub payload_fault_offset : ℕ → List ℕ → Option ℕ
 payload_fault_offset size bytes =
@@ -53,7 +48,7 @@ payload_fault_offset size bytes =
 abbrev pub tail_fault_offset : List ℕ → Option ℕ
 tail_fault_offset bytes =
     if nat_lt (length bytes) 4 then Some (length bytes)
-    else if nat_le 1 (number_in bytes 0 4) && nat_le (number_in bytes 0 4) most_payload_bytes then shifted 4 (payload_fault_offset (number_in bytes 0 4) (drop 4 bytes))
+    else if nat_le 1 (number_in bytes 0 4) && nat_le (number_in bytes 0 4) most_group_bytes then shifted 4 (payload_fault_offset (number_in bytes 0 4) (drop 4 bytes))
     else Some 0
 
 -- the first offset at which these bytes are neither a closed gate nor a record

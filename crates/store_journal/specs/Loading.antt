@@ -1,5 +1,5 @@
 -- What a file that is read as a store of a partition is found to hold.
-use Rattle.std.specs.Prelude.{⊤, ◌≡◌, ◌≢◌, ℕ, ◌+◌, ◌≤◌, List, [], ◌∷◌, ◌++◌, length, drop, Option, None, Some}
+use Rattle.std.specs.Prelude.{⊤, ◌≡◌, ◌≢◌, ℕ, ◌+◌, ◌≤◌, List, ◌∷◌, ◌++◌, length, drop, Option, None, Some}
 use Rattle.std.specs.List.{flat_map}
 use Rattle.byte_fields.specs.Counted.{counted32_text}
 use Rattle.cache_key.specs.declared.request.Mutation.{Mutation}
@@ -67,13 +67,13 @@ pub record HasHeaderOf (bytes : List ℕ) (partition partitions : ℕ) (id : Sto
   pub named : header_section bytes ≡ header_text (record { id = id; partitions = partitions })
   pub of_partition : id.partition ≡ partition
 
--- at this offset an open gate stands, and then the group of this mutation, up to the end
-pub record IsRecordAt (bytes : List ℕ) (offset : ℕ) (mutation : Mutation) (end : ℕ) : Type 0 where
+-- at this offset an open gate stands, and then the group of these mutations, up to the end
+pub record IsRecordAt (bytes : List ℕ) (offset : ℕ) (mutations : List Mutation) (end : ℕ) : Type 0 where
   pub gate : ℕ
   pub is_open : gate ≢ closed_gate
-  pub group : IsGroup (mutation ∷ [])
-  pub spelled : drop offset bytes ≡ gate ∷ counted32_text (group_text (mutation ∷ [])) ++ drop end bytes
-  pub there : end ≡ offset + record_head + length (group_text (mutation ∷ []))
+  pub group : IsGroup mutations
+  pub spelled : drop offset bytes ≡ gate ∷ counted32_text (group_text mutations) ++ drop end bytes
+  pub there : end ≡ offset + record_head + length (group_text mutations)
   pub within : end ≤ length bytes
 
 -- the records up to this offset have these mutations

@@ -1,11 +1,11 @@
 // The records after a header, up to the closed gate.
-ghost use Rattle.std.specs.Prelude.{◌≡◌, ◌≢◌, ◌+◌, ◌<◌, ◌≤◌, ◌^◌, [], ◌∷◌, List, ℕ, length, take, drop, slice_index, None, Some, MatchResult, OnOk, IfErr};
+ghost use Rattle.std.specs.Prelude.{◌≡◌, ◌≢◌, ◌+◌, ◌<◌, ◌≤◌, ◌^◌, [], ◌∷◌, ◌++◌, List, ℕ, length, take, drop, slice_index, None, Some, MatchResult, OnOk, IfErr};
 ghost use Rattle.byte_fields.specs.Numbers.{number_in};
-ghost use Rattle.record_form.specs.GroupText.{IsGroupText, closed_gate};
+ghost use Rattle.record_form.specs.GroupText.{IsGroupText, closed_gate, most_group_bytes};
 ghost use Rattle.record_form.specs.GroupFault.{group_fault};
 ghost use Rattle.seal_gate.specs.Seal.{header_end};
 ghost use Rattle.record_form.specs.FaultOffset.{offset_of};
-ghost use Rattle.store_journal.specs.Fault.{offset_if_fault, shifted, most_payload_bytes, payload_fault_offset, tail_fault_offset, record_fault_offset};
+ghost use Rattle.store_journal.specs.Fault.{offset_if_fault, shifted, payload_fault_offset, tail_fault_offset, record_fault_offset};
 ghost use Rattle.store_journal.specs.Loading.{IsFaultAt, IsRecordsFault, IsRecordAt, AreBefore};
 
 use crate::fault::LoadFault;
@@ -13,16 +13,13 @@ use crate::head::offset_of;
 use crate::layout::FIRST_GATE;
 use byte_fields::u32_at;
 use cache_key::Mutation;
-use record_form::{CLOSED_GATE, Group, RECORD_HEAD, RecordFault, decode_group};
-use std::alloc::Global;
+use record_form::{CLOSED_GATE, Group, MOST_GROUP_BYTES, RECORD_HEAD, RecordFault, decode_group};
+use std::alloc::{AllocError, Global};
 
-/// The most bytes of a record's payload.
-const MOST_PAYLOAD_BYTES: usize = 8_388_608;
-
-/// A record's mutation, and where the record ends.
+/// A record's mutations, and where the record ends.
 #[derive(Drop)]
 struct Record {
-    mutation: Mutation,
+    mutations: Vec<Mutation>,
     end: usize,
 }
 
@@ -45,7 +42,7 @@ pub(crate) fn records(alloc: Global, bytes: &[u8]) -> Result<ReadRecords, LoadFa
     let mut offset = FIRST_GATE;
     while offset < bytes.len() && bytes[offset] != CLOSED_GATE {
         let found = record_at(alloc, bytes, offset)?;
-        mutations.push(found.mutation)?;
+        add_all(&mut mutations, found.mutations)?;
         offset = found.end;
     }
     if offset < bytes.len() {
@@ -57,19 +54,26 @@ pub(crate) fn records(alloc: Global, bytes: &[u8]) -> Result<ReadRecords, LoadFa
     Err(LoadFault::Damaged { at: offset as u64 })
 }
 
+/// Adds mutations after the others.
+fn add_all(mutations: &mut Vec<Mutation>, mut more: Vec<Mutation>) -> Result<(), AllocError>
+    ensures { OnOk result (mutations.new.items ≡ mutations.old.items ++ more.items) }
+{
+    mutations.append(&mut more)
+}
+
 /// The record whose open gate stands at an offset.
 #[tactic(auto, using(crate::proofs::RecordLemmas::record_of_tail, crate::proofs::RecordLemmas::record_of_payload, crate::proofs::RecordLemmas::record_there))]
 fn record_at(alloc: Global, bytes: &[u8], offset: usize) -> Result<Record, LoadFault>
     requires within { offset < length bytes.now }
     requires gate { slice_index bytes.now offset ≢ closed_gate }
     ensures found { MatchResult result
-        (λ found. IsRecordAt bytes.now offset found.mutation found.end)
+        (λ found. IsRecordAt bytes.now offset found.mutations.items found.end)
         (λ fault. IsFaultAt (shifted offset (record_fault_offset (drop offset bytes.now))) fault) }
 {
     let size = size_at(bytes, offset + 1)?;
     let group = group_at(alloc, bytes, offset + RECORD_HEAD, size)?;
     Ok(Record {
-        mutation: group.into_mutation(),
+        mutations: group.into_mutations(),
         end: offset + RECORD_HEAD + size,
     })
 }
@@ -79,7 +83,7 @@ fn record_at(alloc: Global, bytes: &[u8], offset: usize) -> Result<Record, LoadF
 fn size_at(bytes: &[u8], offset: usize) -> Result<usize, LoadFault>
     requires { offset ≤ length bytes.now }
     ensures size { MatchResult result
-        (λ size. (offset + 4 ≤ length bytes.now) × (1 ≤ size) × (size ≤ most_payload_bytes) × (size ≡ number_in bytes.now offset 4))
+        (λ size. (offset + 4 ≤ length bytes.now) × (1 ≤ size) × (size ≤ most_group_bytes) × (size ≡ number_in bytes.now offset 4))
         (λ fault. IsFaultAt (shifted offset (tail_fault_offset (drop offset bytes.now))) fault) }
 {
     if bytes.len() - offset < 4 {
@@ -88,7 +92,7 @@ fn size_at(bytes: &[u8], offset: usize) -> Result<usize, LoadFault>
         });
     }
     let size = u32_at(bytes, offset) as usize;
-    if size < 1 || size > MOST_PAYLOAD_BYTES {
+    if size < 1 || size > MOST_GROUP_BYTES {
         return Err(LoadFault::Damaged { at: offset as u64 });
     }
     Ok(size)
@@ -97,7 +101,8 @@ fn size_at(bytes: &[u8], offset: usize) -> Result<usize, LoadFault>
 /// The group of the payload of this size at an offset.
 #[tactic(auto, using(crate::proofs::RecordLemmas::cut_fails, crate::proofs::RecordLemmas::cut_is_short, crate::proofs::RecordLemmas::whole_fails))]
 fn group_at(alloc: Global, bytes: &[u8], offset: usize, size: usize) -> Result<Group, LoadFault>
-    requires { offset ≤ length bytes.now }
+    requires offset { offset ≤ length bytes.now }
+    requires size { size ≤ most_group_bytes }
     ensures group { MatchResult result
         (λ group. IsGroupText (take size (drop offset bytes.now)) group × (offset + size ≤ length bytes.now))
         (λ fault. IsFaultAt (shifted offset (payload_fault_offset size (drop offset bytes.now))) fault) }
@@ -115,7 +120,8 @@ fn group_at(alloc: Global, bytes: &[u8], offset: usize, size: usize) -> Result<G
 
 /// The group of a payload, whose bytes begin at an offset.
 fn decoded(alloc: Global, payload: &[u8], offset: usize) -> Result<Group, LoadFault>
-    requires { offset + length payload.now < 2 ^ 64 }
+    requires offset { offset + length payload.now < 2 ^ 64 }
+    requires size { length payload.now ≤ most_group_bytes }
     ensures group { MatchResult result
         (λ group. IsGroupText payload.now group)
         (λ fault. IsFaultAt (shifted offset (offset_if_fault (group_fault payload.now))) fault) }

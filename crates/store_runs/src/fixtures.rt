@@ -1,5 +1,7 @@
 //! Mutations, stores and disks that several tests start from.
-use cache_key::{CacheName, Key, Mutation, Value};
+ghost use Rattle.record_form.specs.GroupText.{HasPairs};
+
+use cache_key::{CacheName, Key, Mutation, Pairs, Value};
 use disk_memory::{DiskPlan, MemoryDisk};
 use disk_trait::{Disk, write_synced};
 use newest_store::{NewestFault, load_newest};
@@ -89,12 +91,73 @@ pub(crate) fn expect_same<T: PartialEq + Debug + Drop>(
     assert_eq!(rt; found, want, "{case}");
 }
 
-pub(crate) fn put(rt: &impl Abort, alloc: Global, value: &str) -> Mutation {
+fn cache(rt: &impl Abort, alloc: Global) -> CacheName {
+    CacheName::of(alloc, "c").expect(rt, "a name")
+}
+
+fn key(rt: &impl Abort, alloc: Global, text: &str) -> Key {
+    Key::of(alloc, text).expect(rt, "a key")
+}
+
+fn value(rt: &impl Abort, alloc: Global, text: &str) -> Value {
+    Value::of(alloc, text).expect(rt, "a value")
+}
+
+// The put of this value at key a of cache c.
+pub(crate) fn put(rt: &impl Abort, alloc: Global, value: &str) -> Mutation
+    ensures { HasPairs result }
+{
     Mutation::Put(
-        CacheName::of(alloc, "c").expect(rt, "a name"),
-        Key::of(alloc, "a").expect(rt, "a key"),
+        cache(rt, alloc),
+        key(rt, alloc, "a"),
         Value::of(alloc, value).expect(rt, "a value"),
     )
+}
+
+// Puts 1 at key a, and 2 at key b.
+fn batch(rt: &impl Abort, alloc: Global) -> Mutation
+    ensures { HasPairs result }
+{
+    let mut pairs = Pairs::new(alloc);
+    let first = value(rt, alloc, "1");
+    pairs.push(key(rt, alloc, "a"), first).expect(rt, "a pair");
+    let second = value(rt, alloc, "2");
+    pairs
+        .push(key(rt, alloc, "b"), second)
+        .expect(rt, "two pairs");
+    Mutation::Batch(cache(rt, alloc), pairs)
+}
+
+// The tags of all mutations.
+pub(crate) const TAGS: &[u8] = &[1, 2, 3, 4, 5, 6];
+
+// The mutation of each tag, of key a of cache c.
+pub(crate) fn mutation(rt: &impl Abort, alloc: Global, tag: u8) -> Mutation
+    ensures { HasPairs result }
+{
+    match tag {
+        1 => put(rt, alloc, "1"),
+        2 => Mutation::Remove(cache(rt, alloc), key(rt, alloc, "a")),
+        3 => Mutation::Ensure(cache(rt, alloc)),
+        4 => Mutation::Truncate(cache(rt, alloc)),
+        5 => Mutation::Destroy(cache(rt, alloc)),
+        _ => batch(rt, alloc),
+    }
+}
+
+// There is one mutation of each tag, in this order.
+pub(crate) fn expect_tags(
+    rt: &impl Abort,
+    alloc: Global,
+    case: &str,
+    mutations: &[Mutation],
+    tags: &[u8],
+) {
+    expect_same(rt, case, mutations.len(), tags.len());
+    for (found, tag) in mutations.iter().zip(tags) {
+        let want = mutation(rt, alloc, *tag);
+        expect_same(rt, case, found, &want);
+    }
 }
 
 // The mutations are so many puts of this value.

@@ -12,7 +12,9 @@ mod fields;
 #[cfg(test)]
 mod fixtures;
 #[cfg(test)]
-mod headers_and_groups;
+mod groups;
+#[cfg(test)]
+mod headers;
 #[cfg(test)]
 mod identifiers;
 #[cfg(test)]

@@ -1,6 +1,6 @@
 //! One store over a host that keeps one file in memory.
 use crate::fixtures::{
-    File, HALF, HEADER, ID, SEAL, WHOLE, bytes_of, expect_puts, expect_same, put,
+    File, HALF, HEADER, ID, SEAL, TAGS, WHOLE, bytes_of, expect_puts, expect_same, expect_tags, put,
 };
 use disk_trait::{Disk, DiskRefusal};
 use record_form::{Group, encode_tail};
@@ -96,7 +96,7 @@ const STARTS: &[(&str, File, &[u8])] = &[
 
 // A store is made, and the put of 1 is appended.
 fn make(rt: &impl Abort, alloc: Global, case: &str, disk: &mut OneDisk) {
-    let group = Group::one(put(rt, alloc, "1")).expect(rt, case);
+    let group = Group::one(alloc, put(rt, alloc, "1")).expect(rt, case);
     let tail = encode_tail(alloc, &group).expect(rt, case);
     let mut store = Store::create(disk, 0, HEADER).expect(rt, case);
     expect_same(rt, case, store.end, 41);
@@ -198,6 +198,57 @@ fn a_file_that_is_cut_is_refused_at_its_end(rt: HostRuntime) {
         let fault = load_of(&rt, rt.alloc(), file, 0, 1).err();
         let want = LoadFault::Damaged { at: length as u64 };
         expect_same(&rt, "a cut file", fault, Some(want));
+    }
+}
+
+// A store of one record with a mutation of each tag: its payload begins at 46, its batch at 73, the pairs of that at 77 and
+// 85, and its closed gate at 93.
+const EACH: &[u8] =
+    b"\x01PST1\x00\x01\x00\x00\x00\x00\x00\x00\x00\x00\x00\x01\x00\x00\x00\x00\x00\x00\x00\x01\
+\x00\x00\x00\x01\x00\x00\x00\x00\x00\x00\x00\x00\x00\x00\x00\x00\x01\x00\x00\x00\x2f\x06\
+\x01\x01c\x00\x01a\x00\x00\x00\x011\x02\x01c\x00\x01a\x03\x01c\x04\x01c\x05\x01c\
+\x06\x01c\x02\x00\x01a\x00\x00\x00\x011\x00\x01b\x00\x00\x00\x012\x00";
+
+#[test]
+fn a_group_is_loaded_in_its_order(rt: HostRuntime) {
+    let loaded = load_of(&rt, rt.alloc(), (EACH, SEAL, 1), 0, 1).expect(&rt, "a store");
+    expect_same(&rt, "its end", loaded.store.end, 93);
+    let mutations = loaded.mutations.as_slice();
+    expect_tags(&rt, rt.alloc(), "each tag", mutations, TAGS);
+}
+
+// An offset of that store, another byte there, and the offset of the damage.
+const GROUP_FAULTS: &[(&str, usize, u8, u64)] = &[
+    ("a mutation less", 46, 5, 73),
+    ("a mutation more", 46, 7, 93),
+    ("65 mutations", 46, 65, 46),
+    ("another tag", 67, 9, 67),
+    ("no pair", 76, 0, 76),
+    ("a pair less", 76, 1, 85),
+    ("a pair more", 76, 3, 93),
+    ("65 pairs", 76, 65, 76),
+    ("no key in a pair", 86, 0, 85),
+    ("a key of another byte", 87, 0xff, 87),
+    ("a value of a byte more", 91, 2, 93),
+    ("a payload of a byte less", 45, 46, 92),
+    ("no closed gate", 93, 1, 94),
+];
+
+#[test]
+fn a_group_is_refused_at_its_first_fault(rt: HostRuntime) {
+    for (case, offset, byte, at) in GROUP_FAULTS {
+        let fault = load_of(&rt, rt.alloc(), (EACH, *offset, *byte), 0, 1).err();
+        expect_same(&rt, case, fault, Some(LoadFault::Damaged { at: *at }));
+    }
+}
+
+#[test]
+fn a_group_that_is_cut_is_refused_at_its_end(rt: HostRuntime) {
+    for length in 41..94 {
+        let file = (&EACH[..length], SEAL, 1);
+        let fault = load_of(&rt, rt.alloc(), file, 0, 1).err();
+        let want = LoadFault::Damaged { at: length as u64 };
+        expect_same(&rt, "a cut group", fault, Some(want));
     }
 }
 

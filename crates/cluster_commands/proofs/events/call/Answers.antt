@@ -1,17 +1,12 @@
-use Rattle.std.proofs.Common.{◌≡◌, ◌∷◌, [], List, sym, ◌∙◌, ap}
-use Rattle.cache_key.specs.declared.request.Mutation.{Mutation}
-use Rattle.cache_model.specs.Change.{change_of, changes_of}
-use Rattle.cache_model.specs.Reply.{reply_after, changes_in, changes_asked}
-use Rattle.cluster_commands.proofs.EventLemmas.{ok_still, err_still}
+use Rattle.cluster_commands.proofs.EventLemmas.{ok_still, err_still, whole_step, whole_breaks}
 use Rattle.cluster_commands.proofs.events.call.Goals as goal
 
-pub returns-in-Some-clause-step : goal.returns-in-Some-clause-step
-returns-in-Some-clause-step g c =
-    let asked : changes_asked c.args.request ≡ change_of c.in-Some.mutation ∷ [] = ap changes_in (sym c.in-Some.ensures) in
-    let replied = c.in_ok-reply.ensures ∙ ap (λ (ms : List Mutation). reply_after (changes_of ms) c.args.request) c.deref.ensures.value in
-    ok_still c.change.result _ _ (λ outcome step tells. step tells c.args.request asked replied) c.change.ensures.step
+pub returns-clause-step : goal.returns-clause-step
+returns-clause-step g c =
+    let some = c.asks_nothing.ensures.something c.if-asks_nothing.false in
+    ok_still c.ask.result _ _ (λ outcome step tells. whole_step _ _ c.args.request outcome some (step tells)) c.ask.ensures.step
 
-pub returns-in-Some-clause-broken : goal.returns-in-Some-clause-broken
-returns-in-Some-clause-broken g c =
-    let asked : changes_asked c.args.request ≡ change_of c.in-Some.mutation ∷ [] = ap changes_in (sym c.in-Some.ensures) in
-    err_still c.change.result _ _ (λ broken tells. broken tells c.args.request asked) c.change.ensures.broken
+pub returns-clause-broken : goal.returns-clause-broken
+returns-clause-broken g c =
+    let some = c.asks_nothing.ensures.something c.if-asks_nothing.false in
+    err_still c.ask.result _ _ (λ breaks tells. whole_breaks _ _ c.args.request some (breaks tells)) c.ask.ensures.broken

@@ -1,7 +1,6 @@
 use Rattle.record_form.proofs.HeaderLemmas.{header_text-injective}
-use Rattle.record_form.proofs.GroupLaws.{group_text-injective}
-use Rattle.record_form.proofs.GroupLemmas.{group_size}
+use Rattle.record_form.proofs.GroupFaultLemmas.{group_text-injective}
 use Rattle.record_form.proofs.laws.spellings_are_one.Goals as goal
 
 pub returns : goal.returns
-returns c = record { header = header_text-injective; group = group_text-injective; size = λ group is. (group_size group is).1 }
+returns c = record { header = header_text-injective; group = group_text-injective; size = λ group is. is.size }

@@ -1,10 +1,9 @@
-use Rattle.std.proofs.Common.{arith}
-use Rattle.cache_key.specs.declared.request.Mutation.TheVariants.{Put}
-use Rattle.record_form.proofs.GroupLaws.{decoded_text}
+use Rattle.std.proofs.Common.{arith, ap, length}
+use Rattle.record_form.proofs.GroupFaultLemmas.{group_read}
 use Rattle.record_form.proofs.read_group.checked_group.Goals as goal
 
-pub returns-clause-text : goal.returns-clause-text
-returns-clause-text c =
-    let texts = c.in_ok-texts.texts in
-    decoded_text c.args.payload.now c.group_of.result (Put texts.cache.now texts.key.now texts.value.now) (λ i. omega (arith, c.type_inv.payload i))
-    c.in_ok-texts.ensures.texts.0 c.in_ok-texts.ensures.texts.1 c.in_ok-texts.ensures.limits c.group_of.ensures.group
+pub read-requires-clause-group : goal.read-requires-clause-group
+read-requires-clause-group c = (group_read c.args.payload.now c.in_ok-mutations.mutations.items (λ i. omega (arith, c.type_inv.payload i)) c.requires c.in_ok-mutations.ensures).group
+
+pub read-requires-clause-size : goal.read-requires-clause-size
+read-requires-clause-size c = ap length (group_read c.args.payload.now c.in_ok-mutations.mutations.items (λ i. omega (arith, c.type_inv.payload i)) c.requires c.in_ok-mutations.ensures).spelled

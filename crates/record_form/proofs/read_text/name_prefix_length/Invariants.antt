@@ -1,8 +1,8 @@
 use Rattle.std.proofs.Common.{length, drop, ◌-◌, ◌≡◌, ◌+◌}
-use Rattle.record_form.specs.GroupFault.{name_prefix_length}
+use Rattle.record_form.specs.Characters.{name_prefix_length}
 use Rattle.record_form.proofs.read_text.name_prefix_length.Given as goal
 
--- what was counted, and what stands at the beginning of the rest
+-- what was counted, and how long the prefix of the rest is
 abbrev pub invariant-loop-count : goal.invariant-loop-count
 invariant-loop-count l = l.count + name_prefix_length (drop l.count l.bytes) ≡ name_prefix_length l.bytes
 

@@ -1,37 +1,31 @@
--- The items make up the list; if neither form fits, there is no request.
-use Rattle.std.proofs.Common.{◌≡◌, sym, ap, ◌∙◌, subst, arith, codes, true, false, refl}
-use Rattle.serde_json.specs.Data.{string, array}
+-- The first item is the name, and the ones after it are what is asked.
+use Rattle.std.proofs.Common.{◌≡◌, ◌-◌, List, length, take, drop, sym, ap, ◌∙◌, arith}
+use Rattle.serde_json.specs.Data.{string, array, item}
 use Rattle.serde_json.specs.View.{view, items_view}
-use Rattle.script_lines.specs.Reading.{Reads, IsRequestOf, list_of_four}
-use Rattle.script_lines.proofs.RequestLemmas.{no_request}
-use Rattle.script_lines.proofs.ShapeLemmas.{as_array-array, four_items}
+use Rattle.serde_json.specs.declared.value.Value.{Value}
+use Rattle.script_lines.specs.Form.{named_list}
+use Rattle.script_lines.specs.Reading.{IsRequestOf, IsAsked, event_word, request_name}
+use Rattle.script_lines.proofs.ReadingLemmas.{Reads-same, as_str-string}
+use Rattle.script_lines.proofs.RequestLemmas.{IsRequestOf-asked, IsAsked-request, word_of_request}
+use Rattle.script_lines.proofs.ShapeLemmas.{as_array-array, first_and_others}
 use Rattle.script_lines.proofs.requests.request_of.Goals as goal
-use Rattle.script_lines.proofs.requests.request_of.Goals.{in_default-as_slice-via-then-as_slice-lt3, in_default-as_slice-via-in-len3+else-is_text, in_default-as_slice-via-in-len4+else-is_text-2, in_default-as_slice-via-else-as_slice-lt3+else-this-lt4+else-this-lt5}
 
-pub returns-in-len4 : goal.returns-in-len4
-returns-in-len4 c =
+pub returns-in_default-of : goal.returns-in_default-of
+returns-in_default-of c =
     let there : view c.args.value.now ≡ array (items_view c.as_slice.result.now) = as_array-array _ _ (sym c.in-Some.ensures) ∙ ap (λ vs. array (items_view vs)) (sym c.as_slice.ensures.value) in
-    let whole : array (items_view c.as_slice.result.now) ≡ list_of_four (view c.name-item-then-this-lt5.result) (view c.cache-item-then-this-lt5.result) (view c.key-item-then-this-lt5.result) (view c.value-item.result) =
-    four_items _ _ _ _ _ (omega arith) c.name-item-then-this-lt5.is c.cache-item-then-this-lt5.is c.key-item-then-this-lt5.is c.value-item.is in
-    let name : view c.name-item-then-this-lt5.result ≡ string (codes "put") = c.if-is_text-2.ensures.0 refl in
-    let shape : view c.args.value.now ≡ list_of_four (string (codes "put")) (view c.cache-item-then-this-lt5.result) (view c.key-item-then-this-lt5.result) (view c.value-item.result) =
-    there ∙ whole ∙ ap (λ d. list_of_four d (view c.cache-item-then-this-lt5.result) (view c.key-item-then-this-lt5.result) (view c.value-item.result)) name in
-    subst (λ d. Reads (IsRequestOf d) c.put_of.result) (sym shape) c.put_of.ensures
+    let word : view c.name-item.result ≡ string c.in-Some-as_str.word.now = as_str-string (view c.name-item.result) c.in-Some-as_str.word.now (sym c.in-Some-as_str.ensures) in
+    let others : List Value = take (length c.as_slice.result.now - 1) (drop 1 c.as_slice.result.now) in
+    let shape : view c.args.value.now ≡ named_list c.in-Some-as_str.word.now (items_view others) =
+    there ∙ ap array (first_and_others c.as_slice.result.now c.name-item.result (omega arith) c.name-item.is) ∙ ap (λ d. array (item d (items_view others))) word in
+    λ request is. c.in_default-of.ensures (request_name request) (word_of_request (view c.args.value.now) c.in-Some-as_str.word.now (items_view others) shape request is)
 
-pub returns-in_default-as_slice : goal.returns-in_default-as_slice
-returns-in_default-as_slice c =
+pub returns : goal.returns
+returns c =
     let there : view c.args.value.now ≡ array (items_view c.as_slice.result.now) = as_array-array _ _ (sym c.in-Some.ensures) ∙ ap (λ vs. array (items_view vs)) (sym c.as_slice.ensures.value) in
-    elim c.in_default-as_slice.branch [
-      | in_default-as_slice-via-then-as_slice-lt3 w ↦ no_request _ _ there (λ n x first is. grind arith) (λ n x first is. grind arith)
-      | in_default-as_slice-via-in-len3+else-is_text w ↦
-          no_request _ _ there
-          (λ n x first is. let same : view w.name-item.result ≡ string (codes "get") = ap view (w.name-item.is ∙ first w.name-item.result) ∙ is in
-          let told : false ≡ true = w.if-is_text.ensures.1 same in cc)
-          (λ n x first is. omega arith)
-      | in_default-as_slice-via-in-len4+else-is_text-2 w ↦
-          no_request _ _ there
-          (λ n x first is. omega arith)
-          (λ n x first is. let same : view w.name-item-then-this-lt5.result ≡ string (codes "put") = ap view (w.name-item-then-this-lt5.is ∙ first w.name-item-then-this-lt5.result) ∙ is in
-          let told : false ≡ true = w.if-is_text-2.ensures.1 same in cc)
-      | in_default-as_slice-via-else-as_slice-lt3+else-this-lt4+else-this-lt5 w ↦ no_request _ _ there (λ n x first is. grind arith) (λ n x first is. grind arith)
-    ]
+    let word : view c.name-item.result ≡ string c.in-Some-as_str.word.now = as_str-string (view c.name-item.result) c.in-Some-as_str.word.now (sym c.in-Some-as_str.ensures) in
+    let others : List Value = take (length c.as_slice.result.now - 1) (drop 1 c.as_slice.result.now) in
+    let shape : view c.args.value.now ≡ named_list c.in-Some-as_str.word.now (items_view others) =
+    there ∙ ap array (first_and_others c.as_slice.result.now c.name-item.result (omega arith) c.name-item.is) ∙ ap (λ d. array (item d (items_view others))) word in
+    let named : view c.args.value.now ≡ named_list (event_word c.in-Some-of.name) (items_view others) = shape ∙ ap (λ name. named_list name (items_view others)) c.in-Some-of.ensures in
+    Reads-same (IsAsked c.in-Some-of.name (items_view others)) (IsRequestOf (view c.args.value.now)) c.asked.result
+    (IsRequestOf-asked (view c.args.value.now) c.in-Some-of.name (items_view others) named) (IsAsked-request (view c.args.value.now) c.in-Some-of.name (items_view others) named) c.asked.ensures

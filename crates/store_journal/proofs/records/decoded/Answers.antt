@@ -6,7 +6,7 @@ use Rattle.store_journal.proofs.records.decoded.Goals as goal
 pub damage-requires : goal.damage-requires
 damage-requires c =
     let is = refused (group_fault c.args.payload.now) c.decode_group.result c.in-Err.fault c.decode_group.ensures.fault_at c.in-Err.is in
-    omega (arith, c.requires, refused_within c.args.payload.now c.in-Err.fault is)
+    omega (arith, c.requires.offset, refused_within c.args.payload.now c.in-Err.fault is)
 
 pub returns-in-Err : goal.returns-in-Err
 returns-in-Err c =

@@ -14,7 +14,7 @@ returns-in_err-decoded c =
     let p = err_from_is_err_and c.from_residual.result c.from_residual.ensures.1 in
     record {
       group = cut_answer c.from_residual.result c.decoded.result p.0 _ _ rest c.args.size offset p.1 (c.in_err-decoded.was ∙ ap Err (sym p.2)) whole
-          (omega (arith, c.requires, c.if-rest-size.true, length-drop offset bytes, length-take (length bytes - offset) rest))
+          (omega (arith, c.requires.offset, c.if-rest-size.true, length-drop offset bytes, length-take (length bytes - offset) rest))
           c.decoded.ensures.group;
     }
 
@@ -27,9 +27,9 @@ returns-then-rest-size c =
     record {
       group =
           cut_is_short rest c.args.size offset c.in_ok-decoded.field-0
-          (omega (arith, c.requires, c.if-rest-size.true, length-drop offset bytes, length-take (length bytes - offset) rest))
+          (omega (arith, c.requires.offset, c.if-rest-size.true, length-drop offset bytes, length-take (length bytes - offset) rest))
           (subst (λ (l : List ℕ). IsGroupText l c.in_ok-decoded.field-0) whole c.in_ok-decoded.ensures.group)
-          ∙ ap Some (omega (arith, c.requires, length-drop offset bytes));
+          ∙ ap Some (omega (arith, c.requires.offset, length-drop offset bytes));
     }
 
 pub returns : goal.returns
@@ -40,7 +40,7 @@ returns c =
     let whole : take (length bytes - offset) rest ≡ rest = take_all (length bytes - offset) rest (omega (arith, length-drop offset bytes)) in
     record {
       group = whole_answer c.decoded-2.result _ rest c.args.size offset (length bytes) (ap (λ (l : List ℕ). take c.args.size l) whole)
-          (omega (arith, c.requires, c.if-rest-size.false, length-drop offset bytes, length-take (length bytes - offset) rest))
-          (omega (arith, c.requires, c.if-rest-size.false, length-drop offset bytes, length-take (length bytes - offset) rest))
+          (omega (arith, c.requires.offset, c.if-rest-size.false, length-drop offset bytes, length-take (length bytes - offset) rest))
+          (omega (arith, c.requires.offset, c.if-rest-size.false, length-drop offset bytes, length-take (length bytes - offset) rest))
           c.decoded-2.ensures.group;
     }

@@ -66,6 +66,13 @@ impl Pairs {
         self.pairs.as_slice()
     }
 
+    /// The pairs in their order, to take. Takes no memory.
+    pub fn into_list(self) -> Vec<(Key, Value)>
+        ensures { result.items ≡ self }
+    {
+        self.pairs
+    }
+
     /// Adds a pair at the end. Takes memory.
     pub fn push(&mut self, key: Key, value: Value) -> Result<(), PairsFault>
         ensures ok { OnOk result (self.new ≡ self.old ++ (key, value) ∷ []) }

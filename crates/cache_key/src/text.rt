@@ -1,12 +1,16 @@
 //! A text that keeps the limits of its kind.
 ghost use Rattle.std.specs.Prelude.{◌≡◌, IfOk, nat_eq, refl};
 ghost use Rattle.std.specs.Ordering.{nat_cmp, as_partial_cmp};
+ghost use Rattle.std.proofs.Common.{rules};
 ghost use Rattle.std.specs.Cmp.{partial_equiv_from_equiv};
+ghost use Rattle.std.specs.Cmp.Rules.{hashing};
+ghost use Rattle.std.specs.Hash as fed;
 ghost use Rattle.std.specs.Cmp.Lexicographic.{pointwise, slice_cmp, nat_list_eq_equiv, nat_list_cmp_total, texts_po, texts_ties};
 
 use std::alloc::AllocError;
 use std::cmp::Ordering;
 use std::fmt;
+use std::hash::{Hash, Hasher};
 use std::marker::{Model, PhantomData};
 
 /// A kind of text, by its limits.
@@ -110,5 +114,15 @@ impl<L: Limits> Ord for Text<L> {
 
     fn cmp(&self, other: &Self) -> Ordering {
         self.text().cmp(other.text())
+    }
+}
+
+impl<L: Limits> Hash for Text<L> {
+    ghost hash_input = { λ made. fed.str made };
+
+    ghost respects_eq = { Prim.search (hashing, rules) };
+
+    fn hash<H: Hasher>(&self, state: &mut H) {
+        self.text().hash(state);
     }
 }

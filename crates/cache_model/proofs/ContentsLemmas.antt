@@ -9,10 +9,10 @@ use Rattle.cache_model.specs.Step.{IsChangedBy}
 use Rattle.cache_model.proofs.ListLemmas.{same_caches}
 
 -- of one change more: it decides, or the others do
-value_after-push : (changes : List Change) (newest : Change) (cache key : List ℕ) → value_after (changes ++ newest ∷ []) cache key ≡ (if writes newest cache key then value_left newest cache key else value_after changes cache key)
+pub value_after-push : (changes : List Change) (newest : Change) (cache key : List ℕ) → value_after (changes ++ newest ∷ []) cache key ≡ (if writes newest cache key then value_left newest cache key else value_after changes cache key)
 value_after-push changes newest cache key = ap (λ back. value_looking_back back cache key) (reverse-append changes (newest ∷ []))
 
-presence_after-push : (changes : List Change) (newest : Change) (cache : List ℕ) → is_present_after (changes ++ newest ∷ []) cache ≡ (if rules newest cache then presence_left newest cache else is_present_after changes cache)
+pub presence_after-push : (changes : List Change) (newest : Change) (cache : List ℕ) → is_present_after (changes ++ newest ∷ []) cache ≡ (if rules newest cache then presence_left newest cache else is_present_after changes cache)
 presence_after-push changes newest cache = ap (λ back. presence_looking_back back cache) (reverse-append changes (newest ∷ []))
 
 -- the contents after one change more are those before it, changed

@@ -27,7 +27,7 @@ all_but : {X : Type 0} (P : List ℕ → Type 0) (test : List ℕ → Bool) (es 
 all_but P test [] all = all
 all_but P test (e ∷ es) all = elim (test e.0) as (λ b. AllByRecursion P (keys_of (cond b es (e ∷ remove_entry test es)))) [ true ↦ all.1 | false ↦ (all.0, all_but P test es all.1) ]
 
-rising_cons : (key : List ℕ) (keys : List (List ℕ)) → AllByRecursion (λ other. slice_cmp nat_cmp key other ≡ Less) keys → IsRising keys → IsRising (key ∷ keys)
+pub rising_cons : (key : List ℕ) (keys : List (List ℕ)) → AllByRecursion (λ other. slice_cmp nat_cmp key other ≡ Less) keys → IsRising keys → IsRising (key ∷ keys)
 unfolding IsStrictlySortedBy
 rising_cons key keys below rise = (below, rise)
 
@@ -55,7 +55,7 @@ abbrev pub weight_of : {X : Type 0} → (List ℕ → X → ℕ) → List (List 
 weight_of weight es = sum_by (λ e. weight e.0 e.1) es
 
 -- one entry is weighed by itself
-weight_apart : {X : Type 0} (weight : List ℕ → X → ℕ) (key : List ℕ) (es : List (List ℕ × X)) → weight_of weight es ≡ weight_at weight key (lookup (same key) es) + weight_of weight (remove_entry (same key) es)
+pub weight_apart : {X : Type 0} (weight : List ℕ → X → ℕ) (key : List ℕ) (es : List (List ℕ × X)) → weight_of weight es ≡ weight_at weight key (lookup (same key) es) + weight_of weight (remove_entry (same key) es)
 weight_apart weight key [] = refl
 weight_apart {X = X} weight key (e ∷ es) =
     sum_by-cons (λ (f : List ℕ × X). weight f.0 f.1) e es

@@ -6,12 +6,13 @@ use Rattle.std.specs.Map.{lookup}
 use Rattle.std.proofs.lemmas.Bool.{false≢true}
 use Rattle.std.proofs.lemmas.List.Sorted.{IsPermutation-reverse, sum_by-IsPermutation}
 use Rattle.std.proofs.lemmas.List.Sums.{sum_by-cons, sum_by-append}
+use Rattle.cache_key.specs.Names.{most_pairs}
 use Rattle.cache_key.specs.declared.request.Mutation.{Mutation}
 use Rattle.cache_key.specs.declared.request.Mutation.TheVariants.{Put, Remove, Ensure, Truncate, Destroy, Batch}
 use Rattle.cache_model.specs.Caches.{same, Pairs, Caches}
 use Rattle.cache_model.specs.Change.{Change, change_of, rules, presence_left, writes, value_left}
 use Rattle.cache_model.specs.Contents.{AreContentsAfter, NamesRise, KeysRise}
-use Rattle.cache_model.specs.PlainList.{puts_of, plain_cache, plain_list, spelled_length, live, most_growth, KeepsPairLimits}
+use Rattle.cache_model.specs.PlainList.{puts_of, plain_cache, plain_list, spelled_length, live, growth_of, pairs_of, HasPairs}
 use Rattle.cache_model.specs.Step.{IsChangedBy}
 use Rattle.cache_model.proofs.ContentsLemmas.{same-itself, IsChangedBy-from_contents}
 use Rattle.cache_model.proofs.EntriesLemmas.{weight_at, weight_of, weight-changed, Has, Has-append_left, Has-append_right, Has-from_lookup, weight_of-among}
@@ -21,18 +22,18 @@ use Rattle.cache_model.proofs.StepLemmas.{found}
 -- ---- a measure of mutations, summed over the plain list
 
 -- the measure of a cache with these pairs
-abbrev measured : (Mutation → ℕ) → List ℕ → Pairs → ℕ
+abbrev pub measured : (Mutation → ℕ) → List ℕ → Pairs → ℕ
 measured m cache pairs = sum_by m (plain_cache cache pairs)
 
 -- an ensure has at most the measure of a put
 abbrev IsMeasure : (Mutation → ℕ) → Type 0
 IsMeasure m = (cache key value : List ℕ) → m (Ensure cache) ≤ m (Put cache key value)
 
-sum_by-flat_map : {X Y : Type 0} (f : Y → ℕ) (g : X → List Y) (xs : List X) → sum_by f (flat_map g xs) ≡ sum_by (λ x. sum_by f (g x)) xs
+pub sum_by-flat_map : {X Y : Type 0} (f : Y → ℕ) (g : X → List Y) (xs : List X) → sum_by f (flat_map g xs) ≡ sum_by (λ x. sum_by f (g x)) xs
 sum_by-flat_map f g [] = refl
 sum_by-flat_map f g (x ∷ xs) = sum_by-append f (g x) (flat_map g xs) ∙ ap (λ (n : ℕ). sum_by f (g x) + n) (sum_by-flat_map f g xs) ∙ sym (sum_by-cons (λ y. sum_by f (g y)) x xs)
 
-sum_by-puts_of : (m : Mutation → ℕ) (cache : List ℕ) (pairs : Pairs) → sum_by m (puts_of cache pairs) ≡ weight_of (λ k v. m (Put cache k v)) pairs
+pub sum_by-puts_of : (m : Mutation → ℕ) (cache : List ℕ) (pairs : Pairs) → sum_by m (puts_of cache pairs) ≡ weight_of (λ k v. m (Put cache k v)) pairs
 sum_by-puts_of m cache [] = refl
 sum_by-puts_of m cache (p ∷ ps) = sum_by-cons m (Put cache p.0 p.1) (puts_of cache ps) ∙ ap (λ (n : ℕ). m (Put cache p.0 p.1) + n) (sum_by-puts_of m cache ps) ∙ sym (sum_by-cons (λ (q : List ℕ × List ℕ). m (Put cache q.0 q.1)) p ps)
 
@@ -103,7 +104,7 @@ added (Truncate cache) = []
 added (Destroy cache) = []
 added (Batch cache pairs) = puts_of cache pairs
 
-abbrev cache_of : Mutation → List ℕ
+abbrev pub cache_of : Mutation → List ℕ
 cache_of (Put cache key value) = cache
 cache_of (Remove cache key) = cache
 cache_of (Ensure cache) = cache
@@ -126,7 +127,7 @@ gone_measure m cache None most gone = omega arith
 gone_measure m cache (Some pairs) most gone = absurd (false≢true (sym gone))
 
 -- by how much the measure of the mutation's cache may grow
-cache_grown : (m : Mutation → ℕ) → IsMeasure m → (mutation : Mutation) → KeepsPairLimits mutation → (old new : Caches) → KeysRise new → IsChangedBy (change_of mutation) old new → weight_at (measured m) (cache_of mutation) (lookup (same (cache_of mutation)) new) ≤ weight_at (measured m) (cache_of mutation) (lookup (same (cache_of mutation)) old) + sum_by m (added mutation)
+cache_grown : (m : Mutation → ℕ) → IsMeasure m → (mutation : Mutation) → HasPairs mutation → (old new : Caches) → KeysRise new → IsChangedBy (change_of mutation) old new → weight_at (measured m) (cache_of mutation) (lookup (same (cache_of mutation)) new) ≤ weight_at (measured m) (cache_of mutation) (lookup (same (cache_of mutation)) old) + sum_by m (added mutation)
 cache_grown m least (Put cache key value) within old new rise changed =
     let was = lookup (same cache) old in
     grown m cache was (lookup (same cache) new) ((key, value) ∷ []) (sum_by m (added (Put cache key value))) (KeysRise-lookup cache new rise)
@@ -156,13 +157,13 @@ cache_grown m least (Destroy cache) within old new rise changed =
 cache_grown m least (Batch cache pairs) within old new rise changed =
     let was = lookup (same cache) old in
     grown m cache was (lookup (same cache) new) (reverse pairs) (sum_by m (puts_of cache pairs)) (KeysRise-lookup cache new rise)
-    (λ there. omega (arith, batch_least m least cache pairs within.0))
+    (λ there. omega (arith, batch_least m least cache pairs within))
     (λ k v is. batch_among (is_some (lookup (same k) pairs)) pairs was k v (sym (at_itself_and cache (is_some (lookup (same k) pairs)) (lookup (same k) (reverse pairs)) (found k was)) ∙ sym (changed.values cache k) ∙ is))
     (omega (arith, sum_by-reverse m cache pairs))
 
 -- ---- the other caches stay
 
-not_ruled : (mutation : Mutation) (other : List ℕ) → same (cache_of mutation) other ≡ false → rules (change_of mutation) other ≡ false
+pub not_ruled : (mutation : Mutation) (other : List ℕ) → same (cache_of mutation) other ≡ false → rules (change_of mutation) other ≡ false
 not_ruled (Put cache key value) other apart = apart
 not_ruled (Remove cache key) other apart = refl
 not_ruled (Ensure cache) other apart = apart
@@ -170,7 +171,7 @@ not_ruled (Truncate cache) other apart = refl
 not_ruled (Destroy cache) other apart = apart
 not_ruled (Batch cache pairs) other apart = apart
 
-not_written : (mutation : Mutation) (other key : List ℕ) → same (cache_of mutation) other ≡ false → writes (change_of mutation) other key ≡ false
+pub not_written : (mutation : Mutation) (other key : List ℕ) → same (cache_of mutation) other ≡ false → writes (change_of mutation) other key ≡ false
 not_written (Put cache k value) other key apart = ap (λ (b : Bool). b && same k key) apart
 not_written (Remove cache k) other key apart = ap (λ (b : Bool). b && same k key) apart
 not_written (Ensure cache) other key apart = refl
@@ -186,7 +187,7 @@ others_same mutation old new rise others_rise changed other apart =
 
 -- ---- the whole list
 
-list_grown : (m : Mutation → ℕ) → IsMeasure m → (mutation : Mutation) → KeepsPairLimits mutation → (old new : Caches) → NamesRise old → NamesRise new → KeysRise old → KeysRise new → IsChangedBy (change_of mutation) old new → sum_by m (plain_list new) ≤ sum_by m (plain_list old) + sum_by m (added mutation)
+list_grown : (m : Mutation → ℕ) → IsMeasure m → (mutation : Mutation) → HasPairs mutation → (old new : Caches) → NamesRise old → NamesRise new → KeysRise old → KeysRise new → IsChangedBy (change_of mutation) old new → sum_by m (plain_list new) ≤ sum_by m (plain_list old) + sum_by m (added mutation)
 list_grown m least mutation within old new names new_names keys new_keys changed =
     let before = sum_by-flat_map m (λ (c : List ℕ × Pairs). plain_cache c.0 c.1) old in
     let after = sum_by-flat_map m (λ (c : List ℕ × Pairs). plain_cache c.0 c.1) new in
@@ -194,7 +195,7 @@ list_grown m least mutation within old new names new_names keys new_keys changed
     let both = weight-changed (measured m) (cache_of mutation) old new names new_names (others_same mutation old new keys new_keys changed) in
     omega (arith, before, after, one, both)
 
-length_is_sum : (mutations : List Mutation) → length mutations ≡ sum_by (λ _. 1) mutations
+pub length_is_sum : (mutations : List Mutation) → length mutations ≡ sum_by (λ _. 1) mutations
 length_is_sum [] = refl
 length_is_sum (x ∷ xs) = omega (arith, sum_by-cons (λ (_ : Mutation). 1) x xs, length_is_sum xs)
 
@@ -205,37 +206,37 @@ store_as_long : (t u n k : ℕ) → u ≤ t + 0 → k ≤ n + 0 → 42 + u + 6 *
 store_as_long t u n k lengths counts = omega arith
 
 -- the lengths of the lists, in bytes and in mutations
-lengths_grown : (mutation : Mutation) → KeepsPairLimits mutation → (old new : Caches) → NamesRise old → NamesRise new → KeysRise old → KeysRise new → IsChangedBy (change_of mutation) old new → (sum_by spelled_length (plain_list new) ≤ sum_by spelled_length (plain_list old) + sum_by spelled_length (added mutation)) × (length (plain_list new) ≤ length (plain_list old) + length (added mutation))
+lengths_grown : (mutation : Mutation) → HasPairs mutation → (old new : Caches) → NamesRise old → NamesRise new → KeysRise old → KeysRise new → IsChangedBy (change_of mutation) old new → (sum_by spelled_length (plain_list new) ≤ sum_by spelled_length (plain_list old) + sum_by spelled_length (added mutation)) × (length (plain_list new) ≤ length (plain_list old) + length (added mutation))
 lengths_grown mutation within old new names new_names keys new_keys changed =
     let counts = list_grown (λ _. 1) (λ _ _ _. omega arith) mutation within old new names new_names keys new_keys changed in (
       list_grown spelled_length (λ _ _ _. omega arith) mutation within old new names new_names keys new_keys changed,
       omega (arith, counts, length_is_sum (plain_list new), length_is_sum (plain_list old), length_is_sum (added mutation)),
     )
 
-length-puts_of : (cache : List ℕ) (pairs : Pairs) → length (puts_of cache pairs) ≡ length pairs
+pub length-puts_of : (cache : List ℕ) (pairs : Pairs) → length (puts_of cache pairs) ≡ length pairs
 length-puts_of cache [] = refl
 length-puts_of cache (p ∷ ps) = omega (arith, length-puts_of cache ps)
 
-pub live_grown : (mutation : Mutation) → KeepsPairLimits mutation → (old new : Caches) → NamesRise old → NamesRise new → KeysRise old → KeysRise new → IsChangedBy (change_of mutation) old new → live new ≤ live old + most_growth mutation
-live_grown (Put cache key value) within old new names new_names keys new_keys changed =
+pub live_grown : (mutation : Mutation) → HasPairs mutation → length (pairs_of mutation) ≤ most_pairs → (old new : Caches) → NamesRise old → NamesRise new → KeysRise old → KeysRise new → IsChangedBy (change_of mutation) old new → live new ≤ live old + growth_of mutation
+live_grown (Put cache key value) within few old new names new_names keys new_keys changed =
     let both = lengths_grown (Put cache key value) within old new names new_names keys new_keys changed in
     store_longer (sum_by spelled_length (plain_list old)) (sum_by spelled_length (plain_list new)) (length (plain_list old)) (length (plain_list new)) (spelled_length (Put cache key value)) 1 (omega (arith, both)) (omega (arith, both)) (omega arith)
-live_grown (Remove cache key) within old new names new_names keys new_keys changed =
+live_grown (Remove cache key) within few old new names new_names keys new_keys changed =
     let both = lengths_grown (Remove cache key) within old new names new_names keys new_keys changed in
     store_as_long _ _ _ _ both.0 both.1
-live_grown (Ensure cache) within old new names new_names keys new_keys changed =
+live_grown (Ensure cache) within few old new names new_names keys new_keys changed =
     let both = lengths_grown (Ensure cache) within old new names new_names keys new_keys changed in
     store_longer (sum_by spelled_length (plain_list old)) (sum_by spelled_length (plain_list new)) (length (plain_list old)) (length (plain_list new)) (spelled_length (Ensure cache)) 1 (omega (arith, both)) (omega (arith, both)) (omega arith)
-live_grown (Truncate cache) within old new names new_names keys new_keys changed =
+live_grown (Truncate cache) within few old new names new_names keys new_keys changed =
     let both = lengths_grown (Truncate cache) within old new names new_names keys new_keys changed in
     store_as_long _ _ _ _ both.0 both.1
-live_grown (Destroy cache) within old new names new_names keys new_keys changed =
+live_grown (Destroy cache) within few old new names new_names keys new_keys changed =
     let both = lengths_grown (Destroy cache) within old new names new_names keys new_keys changed in
     store_as_long _ _ _ _ both.0 both.1
-live_grown (Batch cache pairs) within old new names new_names keys new_keys changed =
+live_grown (Batch cache pairs) within few old new names new_names keys new_keys changed =
     let both = lengths_grown (Batch cache pairs) within old new names new_names keys new_keys changed in
-    store_longer _ _ _ _ (sum_by spelled_length (puts_of cache pairs)) (length (puts_of cache pairs)) both.0 both.1 (omega (arith, length-puts_of cache pairs, within.1))
+    store_longer _ _ _ _ (sum_by spelled_length (puts_of cache pairs)) (length (puts_of cache pairs)) both.0 both.1 (omega (arith, length-puts_of cache pairs, few))
 
-pub live-growth : (changes : List Change) (mutation : Mutation) (before after : Caches) → KeepsPairLimits mutation → AreContentsAfter changes before → AreContentsAfter (changes ++ change_of mutation ∷ []) after → live after ≤ live before + most_growth mutation
-live-growth changes mutation before after within were are =
-    live_grown mutation within before after were.names_rise are.names_rise were.keys_rise are.keys_rise (IsChangedBy-from_contents changes (change_of mutation) before after were are)
+pub live-growth : (changes : List Change) (mutation : Mutation) (before after : Caches) → HasPairs mutation → length (pairs_of mutation) ≤ most_pairs → AreContentsAfter changes before → AreContentsAfter (changes ++ change_of mutation ∷ []) after → live after ≤ live before + growth_of mutation
+live-growth changes mutation before after within few were are =
+    live_grown mutation within few before after were.names_rise are.names_rise were.keys_rise are.keys_rise (IsChangedBy-from_contents changes (change_of mutation) before after were are)

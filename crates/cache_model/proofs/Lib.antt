@@ -1,10 +1,11 @@
-mod ContentsLemmas
-mod EntriesLemmas
-mod GrowthLemmas
-mod ListLemmas
+pub mod ContentsLemmas
+pub mod EntriesLemmas
+pub mod GrowthLemmas
+pub mod ListLemmas
 mod PairsLemmas
 pub mod PartsLemmas
 mod PlainListLemmas
-mod ShownLemmas
-mod SizeLemmas
-mod StepLemmas
+pub mod ShownLemmas
+pub mod SizeLemmas
+pub mod StepLemmas
+pub mod SameLemmas

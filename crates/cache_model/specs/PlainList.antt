@@ -1,7 +1,6 @@
 -- Contents as one list of mutations, and how long a store file of it is. Lengths are in bytes.
 use Rattle.std.specs.Prelude.{ℕ, ◌+◌, ◌*◌, ◌/◌, ◌≤◌, ⊤, List, [], ◌∷◌, map, length, sum_by}
 use Rattle.std.specs.List.{flat_map}
-use Rattle.cache_key.specs.Names.{most_pairs}
 use Rattle.cache_key.specs.declared.request.Mutation.{Mutation}
 use Rattle.cache_key.specs.declared.request.Mutation.TheVariants.{Put, Remove, Ensure, Truncate, Destroy, Batch}
 use Rattle.cache_model.specs.Caches.{Pairs, Caches}
@@ -61,19 +60,28 @@ abbrev pub live : Caches → ℕ
 live caches = build_length (plain_list caches)
 
 -- by how much a mutation may lengthen such a store: by the record of its puts, or of its ensure, and else not at all
-abbrev pub most_growth : Mutation → ℕ
-most_growth (Put cache key value) = record_overhead + spelled_length (Put cache key value)
-most_growth (Remove cache key) = 0
-most_growth (Ensure cache) = record_overhead + spelled_length (Ensure cache)
-most_growth (Truncate cache) = 0
-most_growth (Destroy cache) = 0
-most_growth (Batch cache pairs) = record_overhead + sum_by spelled_length (puts_of cache pairs)
+abbrev pub growth_of : Mutation → ℕ
+growth_of (Put cache key value) = record_overhead + spelled_length (Put cache key value)
+growth_of (Remove cache key) = 0
+growth_of (Ensure cache) = record_overhead + spelled_length (Ensure cache)
+growth_of (Truncate cache) = 0
+growth_of (Destroy cache) = 0
+growth_of (Batch cache pairs) = record_overhead + sum_by spelled_length (puts_of cache pairs)
 
--- a batch has 1 to 64 pairs
-abbrev pub KeepsPairLimits : Mutation → Type 0
-KeepsPairLimits (Put cache key value) = ⊤
-KeepsPairLimits (Remove cache key) = ⊤
-KeepsPairLimits (Ensure cache) = ⊤
-KeepsPairLimits (Truncate cache) = ⊤
-KeepsPairLimits (Destroy cache) = ⊤
-KeepsPairLimits (Batch cache pairs) = (1 ≤ length pairs) × (length pairs ≤ most_pairs)
+-- the pairs of a batch; any other mutation has none
+abbrev pub pairs_of : Mutation → Pairs
+pairs_of (Put cache key value) = []
+pairs_of (Remove cache key) = []
+pairs_of (Ensure cache) = []
+pairs_of (Truncate cache) = []
+pairs_of (Destroy cache) = []
+pairs_of (Batch cache pairs) = pairs
+
+-- if it is a batch, it has pairs
+abbrev pub HasPairs : Mutation → Type 0
+HasPairs (Put cache key value) = ⊤
+HasPairs (Remove cache key) = ⊤
+HasPairs (Ensure cache) = ⊤
+HasPairs (Truncate cache) = ⊤
+HasPairs (Destroy cache) = ⊤
+HasPairs (Batch cache pairs) = 1 ≤ length pairs

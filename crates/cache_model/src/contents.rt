@@ -42,6 +42,13 @@ impl Contents {
         }
     }
 
+    /// The contents that these caches are: each that is in the map is there. Takes no memory.
+    pub fn of(caches: BTreeMap<CacheName, BTreeMap<Key, Value>>) -> Self
+        ensures { result ≡ caches_shown caches }
+    {
+        Contents { caches }
+    }
+
     /// The caches in byte order of their names, each with its keys in byte order.
     pub fn caches(&self) -> &BTreeMap<CacheName, BTreeMap<Key, Value>>
         ensures { caches_shown result.now ≡ self.now }

@@ -1,10 +1,11 @@
 //! Laws of the definitions, for every list of changes.
 ghost use Rattle.std.specs.Prelude.{◌≡◌, ℕ, ◌+◌, ◌≤◌, List, [], ◌∷◌, ◌++◌, length};
+ghost use Rattle.cache_key.specs.Names.{most_pairs};
 ghost use Rattle.cache_key.specs.declared.request.Mutation.{Mutation};
 ghost use Rattle.cache_model.specs.Caches.{Caches};
 ghost use Rattle.cache_model.specs.Change.{Change, change_of, changes_of, put};
 ghost use Rattle.cache_model.specs.Contents.{value_after, SameContents, AreContentsAfter};
-ghost use Rattle.cache_model.specs.PlainList.{plain_list, live, most_growth, KeepsPairLimits};
+ghost use Rattle.cache_model.specs.PlainList.{plain_list, live, growth_of, pairs_of, HasPairs};
 ghost use Rattle.cache_model.specs.Size.{size_after, pairs_in};
 
 /// The law of a put: its value is read back, and every other key keeps its value. Does nothing.
@@ -31,13 +32,15 @@ pub fn plain_list_leaves_the_contents()
         → AreContentsAfter (changes_of (plain_list caches)) caches }
 {}
 
-/// The law of growth: a mutation lengthens a store of the contents by at most its growth. Does nothing.
+/// The law of growth: a mutation lengthens a store of the contents by at most its growth, if it is no batch or one of 1 to
+/// 64 pairs. Does nothing.
 pub fn live_grows_at_most()
     ensures { (changes : List Change) (mutation : Mutation) (before after : Caches)
-        → KeepsPairLimits mutation
+        → HasPairs mutation
+        → length (pairs_of mutation) ≤ most_pairs
         → AreContentsAfter changes before
         → AreContentsAfter (changes ++ change_of mutation ∷ []) after
-        → live after ≤ live before + most_growth mutation }
+        → live after ≤ live before + growth_of mutation }
 {}
 
 /// The law of the one order: two lists of changes have the same contents exactly if their contents are one list of

@@ -1,7 +1,7 @@
 //! The contents as one list of mutations, and the lengths of a store file. Lengths are in bytes.
 ghost use Rattle.std.specs.Prelude.{◌≡◌, ◌+◌, ◌*◌, ◌≤◌, ◌++◌, sum_by, IfOk, IfSome, OnOk};
 ghost use Rattle.cache_key.specs.declared.request.Mutation.TheVariants.{Put};
-ghost use Rattle.cache_model.specs.PlainList.{puts_of, plain_cache, plain_list, counted, pair_length, spelled_length, build_length, live, most_growth};
+ghost use Rattle.cache_model.specs.PlainList.{puts_of, plain_cache, plain_list, counted, pair_length, spelled_length, build_length, live, growth_of};
 
 use crate::contents::Contents;
 use cache_key::{CacheName, Key, Mutation, Pairs, Value};
@@ -46,7 +46,8 @@ pub fn live(alloc: Global, contents: &Contents) -> Result<u64, AllocError>
 
 /// By how much the mutation may lengthen a store that holds the contents and nothing else. Takes no memory.
 pub fn growth(mutation: &Mutation) -> u64
-    ensures { result ≡ most_growth mutation.now }
+    ensures growth { result ≡ growth_of mutation.now }
+    ensures most { result ≤ 4264454 }
 {
     match mutation {
         Mutation::Put(cache, key, value) => RECORD_OVERHEAD + length_of_put(cache, key, value),

@@ -8,10 +8,12 @@
 //! Keeps: lists of changes with the same contents have one list of caches (`contents_have_one_order`); the size of a cache
 //!   is the number of its pairs there (`size_counts_the_pairs`); the plain list leaves the contents that it lists
 //!   (`plain_list_leaves_the_contents`); a mutation lengthens a store of the contents by at most its growth
-//!   (`live_grows_at_most`).
+//!   (`live_grows_at_most`); lists with the same contents have them also after the same further changes
+//!   (`same_contents_stay_the_same`).
 //! Hides: that `Contents` is a map of maps.
 //! Not here: the bytes of a mutation in a file (record_form).
-//! Laws: PartsLemmas.
+//! Laws: ContentsLemmas, EntriesLemmas, GrowthLemmas, ListLemmas, PartsLemmas, SameLemmas, ShownLemmas, SizeLemmas,
+//!   StepLemmas.
 //! Cost: a value or a presence looks at each mutation at most once; contents take one look-up a mutation; a size takes
 //!   the contents, and the live length their plain list.
 #![tactic(auto)]
@@ -20,6 +22,7 @@ mod contents;
 mod laws;
 mod lengths;
 mod plain;
+mod same;
 
 pub use contents::Contents;
 pub use laws::{
@@ -31,3 +34,4 @@ pub use plain::{
     as_mutation, asks_nothing, collect_contents, find_value, is_mutation, is_present, reply_to,
     size,
 };
+pub use same::{same_contents_is_an_equivalence, same_contents_stay_the_same};

@@ -1,6 +1,7 @@
 -- What is spelled are bytes.
-use Rattle.std.proofs.Common.{◌≡◌, ℕ, zero, suc, ◌+◌, ◌/◌, ◌<◌, Bool, true, false, cond, List, [], ◌∷◌, ◌++◌, refl, subst, arith, inl, inr}
-use Rattle.std.proofs.lemmas.Bool.{ltb-true}
+use Rattle.std.proofs.Common.{◌≡◌, ℕ, zero, suc, ◌+◌, ◌/◌, ◌<◌, Bool, true, false, cond, List, [], ◌∷◌, ◌++◌, length, All, refl, subst, arith, inl, inr}
+use Rattle.std.proofs.lemmas.Bool.{cases_lt, ltb-true}
+use Rattle.std.proofs.lemmas.List.{get_or_past}
 use Rattle.std.specs.Str.{IsUtf8}
 use Rattle.byte_fields.proofs.NumbersLemmas.{AreBytes}
 use Rattle.record_form.proofs.HeaderLemmas.{both_true}
@@ -55,3 +56,11 @@ AreBytes-encodes (c ∷ cs) are =
 
 pub AreBytes-utf8 : (text : List ℕ) → IsUtf8 text → AreBytes text
 AreBytes-utf8 text (characters, (are, spelled)) = subst AreBytes spelled (AreBytes-encodes characters are)
+
+-- bytes, as a law says it
+pub are_bytes : (bytes : List ℕ) → All (λ byte. byte < 256) bytes → AreBytes bytes
+are_bytes bytes are i =
+    elim (cases_lt i (length bytes)) [
+      | inl here ↦ omega (arith, are i 0 here)
+      | inr past ↦ rw (get_or_past bytes i 0 past) (omega arith)
+    ]

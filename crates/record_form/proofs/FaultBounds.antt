@@ -1,11 +1,16 @@
 -- A fault lies within the bytes that have it.
-use Rattle.std.proofs.Common.{◌≡◌, ℕ, ◌-◌, ◌≤◌, Bool, true, false, List, [], ◌∷◌, length, Option, None, Some, Result, Ok, Err, refl, subst, arith}
+use Rattle.std.proofs.Common.{◌≡◌, ℕ, ◌-◌, ◌≤◌, take, inl, inr, sym, Bool, true, false, List, [], ◌∷◌, length, Option, None, Some, Result, Ok, Err, refl, subst, arith}
 use Rattle.std.specs.Prelude.{⊤}
+use Rattle.std.proofs.lemmas.Bool.{cases_lt}
+use Rattle.std.proofs.lemmas.List.{length-take}
 use Rattle.cache_key.specs.declared.request.Mutation.{Mutation}
 use Rattle.record_form.specs.declared.fault.RecordFault.{RecordFault}
+use Rattle.record_form.specs.declared.fault.RecordFault.TheVariants.{Short, Tag, Range, Name, NoMemory}
 use Rattle.record_form.specs.Form.{FaultKind, TooShort, BadTag, OutOfRange, BadByte, Stop, fault_of, reading_fault}
 use Rattle.record_form.specs.HeaderFault.{first_failed, header_fault, header_in, header_checks}
-use Rattle.record_form.specs.GroupFault.{group_at, group_fault}
+use Rattle.record_form.specs.GroupFault.{group_at, bytes_fault, or_too_long, group_fault}
+use Rattle.record_form.specs.GroupText.{most_group_bytes}
+use Rattle.record_form.proofs.GroupFaultLemmas.{short_fault, long_fault}
 use Rattle.record_form.specs.FaultOffset.{offset_of}
 
 -- a fault, if there is one, lies within so many bytes
@@ -26,9 +31,31 @@ reading_within : (payload : List ℕ) (r : Result (List Mutation) Stop) → With
 reading_within payload (Ok ms) = tt
 reading_within payload (Err stop) = omega (arith, offset_of-fault_of stop.kind (length payload - length stop.left))
 
+within_more : (few many : ℕ) (found : Option RecordFault) → few ≤ many → Within few found → Within many found
+within_more few many None le within = tt
+within_more few many (Some fault) le within = omega arith
+
+within_limit : (n : ℕ) (found : Option RecordFault) → most_group_bytes ≤ n → Within n found → Within n (or_too_long true found)
+within_limit n None long within = long
+within_limit n (Some (Short at)) long within = long
+within_limit n (Some (Tag at)) long within = within
+within_limit n (Some (Range at)) long within = within
+within_limit n (Some (Name at)) long within = within
+within_limit n (Some NoMemory) long within = within
+
+payload_within : (payload : List ℕ) → Within (length payload) (group_fault payload)
+payload_within payload =
+    let first = take most_group_bytes payload in
+    elim (cases_lt most_group_bytes (length payload)) [
+      | inl long ↦
+          subst (Within (length payload)) (sym (long_fault payload long))
+          (within_limit (length payload) (bytes_fault first) (omega arith) (within_more (length first) (length payload) (bytes_fault first) (omega (arith, length-take most_group_bytes payload)) (reading_within first (group_at first))))
+      | inr short ↦ subst (Within (length payload)) (sym (short_fault payload short)) (reading_within payload (group_at payload))
+    ]
+
 -- a fault of a payload lies in it, or at its end
 pub group_fault_within : (payload : List ℕ) (fault : RecordFault) → group_fault payload ≡ Some fault → offset_of fault ≤ length payload
-group_fault_within payload fault is = within_at (length payload) (group_fault payload) fault (reading_within payload (group_at payload)) is
+group_fault_within payload fault is = within_at (length payload) (group_fault payload) fault (payload_within payload) is
 
 within_check : (n : ℕ) (b : Bool) (fault : RecordFault) (checks : List (Bool × RecordFault)) → offset_of fault ≤ n → Within n (first_failed checks) → Within n (first_failed ((b, fault) ∷ checks))
 within_check n true fault checks here rest = rest

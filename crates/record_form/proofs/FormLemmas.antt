@@ -2,7 +2,7 @@
 use Rattle.std.proofs.Common.{◌≡◌, ℕ, Bool, true, false, cond, List, ◌++◌, length, drop, Result, Ok, Err, refl, subst}
 use Rattle.std.proofs.lemmas.List.{drop_at}
 use Rattle.byte_fields.proofs.NumbersLemmas.{AreBytes}
-use Rattle.record_form.specs.Form.{Stop, Form, ◌>>=◌}
+use Rattle.record_form.specs.Form.{Stop, fields_text, Form, ◌>>=◌}
 use Rattle.record_form.specs.Prefix.{StopsWith}
 use Rattle.record_form.proofs.HeaderLemmas.{AreBytes-drop}
 
@@ -50,6 +50,8 @@ pub record IsForm {A : Type 0} (f : Form A) : Type 0 where
   pub takes : (bytes : List ℕ) (x : A) (rest : List ℕ) → AreBytes bytes → f.read bytes ≡ Ok (x, rest) → (bytes ≡ f.text x ++ rest) × f.Fits x
   pub again : (x : A) (rest : List ℕ) → f.Fits x → f.read (f.text x ++ rest) ≡ Ok (x, rest)
   pub stops : (bytes : List ℕ) (stop : Stop) → AreBytes bytes → f.read bytes ≡ Err stop → StopsWith f bytes stop
+  -- a text is that of its fields
+  pub spelled : (x : A) → f.Fits x → fields_text (f.fields x) ≡ f.text x
   -- a text is bytes
   pub bytes : (x : A) → f.Fits x → AreBytes (f.text x)
   -- some value has a spelling

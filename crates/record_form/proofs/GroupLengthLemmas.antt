@@ -1,18 +1,20 @@
 -- How long the spellings of mutations are.
-use Rattle.std.proofs.Common.{◌≡◌, ℕ, ◌+◌, ◌*◌, List, [], ◌∷◌, ◌++◌, length, take, get_or, All, refl, ap, ◌∙◌, arith, ◌<◌, ◌≤◌, length-append, append_assoc}
+use Rattle.std.proofs.Common.{◌≡◌, ℕ, ◌+◌, List, [], ◌∷◌, ◌++◌, length, take, get_or, All, refl, ap, ◌∙◌, arith, ◌<◌, ◌≤◌, length-append, append_assoc}
 use Rattle.std.specs.List.{flat_map, AllByRecursion}
-use Rattle.std.proofs.Math.Nat.{mul-suc}
+use Rattle.std.specs.Prelude.{sum_by}
 use Rattle.std.proofs.lemmas.List.{take_more}
+use Rattle.std.proofs.lemmas.List.Sums.{sum_by-cons}
 use Rattle.std.proofs.lemmas.List.Concat.{flat_map-cons, flat_map-append}
 use Rattle.byte_fields.specs.Numbers.{bytes_of}
 use Rattle.byte_fields.specs.Counted.{counted_text}
 use Rattle.byte_fields.proofs.NumbersLemmas.{length-bytes_of}
 use Rattle.byte_fields.proofs.CountedLemmas.{length-counted_text}
 use Rattle.cache_key.specs.declared.request.Mutation.{Mutation}
-use Rattle.cache_key.specs.declared.request.Mutation.TheVariants.{Put, Remove, Batch}
+use Rattle.cache_key.specs.declared.request.Mutation.TheVariants.{Put, Remove, Ensure, Truncate, Destroy, Batch}
 use Rattle.std.proofs.lemmas.List.Elements.{recursion_from_All}
 use Rattle.cache_key.specs.Names.{IsPair}
-use Rattle.record_form.specs.GroupText.{pair_form, mutation_text, group_text, tail_text, puts_length, IsMutation, IsGroup, most_group_bytes}
+use Rattle.cache_model.specs.PlainList.{pair_length, spelled_length}
+use Rattle.record_form.specs.GroupText.{pair_form, mutation_text, group_text, tail_text, IsMutation, IsGroup, most_group_bytes}
 
 abbrev pair_text : List ℕ × List ℕ → List ℕ
 pair_text pair = pair_form.text pair
@@ -43,16 +45,23 @@ length_batch cache pairs =
     let c = length-append (bytes_of 1 (length pairs)) (flat_map pair_text pairs) in
     omega (arith, a, b, c, length-bytes_of 1 6, length-counted_text 1 cache, length-bytes_of 1 (length pairs))
 
-pub length_puts : (cache : List ℕ) (pairs : List (List ℕ × List ℕ)) → puts_length cache pairs ≡ (2 + length cache) * length pairs + length (flat_map pair_text pairs)
-length_puts cache [] = omega arith
-length_puts cache (pair ∷ pairs) =
-    let rest = length_puts cache pairs in
-    let here = length_put cache pair.0 pair.1 in
-    let one = length_pair pair in
-    let e = ap length (flat_map-cons pair_text pair pairs) ∙ length-append (pair_text pair) (flat_map pair_text pairs) in
-    let sum : puts_length cache (pair ∷ pairs) ≡ length (mutation_text (Put cache pair.0 pair.1)) + puts_length cache pairs = refl in
-    let product : (2 + length cache) * length (pair ∷ pairs) ≡ (2 + length cache) * length pairs + (2 + length cache) = mul-suc (2 + length cache) (length pairs) in
-    omega (arith, rest, here, one, e, sum, product)
+-- ---- the lengths that the model of contents counts
+
+pairs_spelled : (pairs : List (List ℕ × List ℕ)) → length (flat_map pair_text pairs) ≡ sum_by pair_length pairs
+pairs_spelled [] = refl
+pairs_spelled (pair ∷ pairs) =
+    let first = ap length (flat_map-cons pair_text pair pairs) ∙ length-append (pair_text pair) (flat_map pair_text pairs) in
+    omega (arith, first, length_pair pair, pairs_spelled pairs, sum_by-cons pair_length pair pairs)
+
+pub length-mutation_text : (mutation : Mutation) → length (mutation_text mutation) ≡ spelled_length mutation
+length-mutation_text (Put cache key value) = omega (arith, length_put cache key value)
+length-mutation_text (Remove cache key) = omega (arith, length_remove cache key)
+length-mutation_text (Ensure cache) = omega (arith, length_name 3 cache)
+length-mutation_text (Truncate cache) = omega (arith, length_name 4 cache)
+length-mutation_text (Destroy cache) = omega (arith, length_name 5 cache)
+length-mutation_text (Batch cache pairs) = omega (arith, length_batch cache pairs, pairs_spelled pairs)
+
+-- ---- one more
 
 -- one pair more
 pub pairs_more : (pairs : List (List ℕ × List ℕ)) (i : ℕ) (d : List ℕ × List ℕ) → i < length pairs

@@ -7,9 +7,10 @@ use Rattle.std.proofs.lemmas.Bool.{leb-true, eqb-true, eqb-false}
 use Rattle.cache_key.specs.Names.{IsNameByte, IsName, IsKey, IsValue, IsPair, most_name_bytes, most_key_bytes, most_value_bytes, most_pairs}
 use Rattle.cache_key.specs.declared.request.Mutation.{Mutation}
 use Rattle.cache_key.specs.declared.request.Mutation.TheVariants.{Put, Remove, Ensure, Truncate, Destroy, Batch}
-use Rattle.record_form.specs.Form.{BadTag, OutOfRange, Form, choose, ◌then◌, many, characters}
+use Rattle.cache_model.specs.PlainList.{pairs_of}
+use Rattle.record_form.specs.Form.{BadTag, OutOfRange, NameText, Utf8Text, Form, choose, ◌then◌, many, characters}
 use Rattle.record_form.specs.Characters.{first_bad_in_name, first_bad_in_utf8}
-use Rattle.record_form.specs.GroupText.{is_within, most_mutations, name_form, key_form, value_form, pair_form, pairs_form, put_form, remove_form, ensure_form, truncate_form, destroy_form, batch_form, fields_of, mutation_form, group_form, cache_of, key_of, value_of, pairs_of, tag_of, IsMutation, AreMutations}
+use Rattle.record_form.specs.GroupText.{is_within, most_mutations, name_form, key_form, value_form, pair_form, pairs_form, put_form, remove_form, ensure_form, truncate_form, destroy_form, batch_form, fields_of, mutation_form, group_form, cache_of, key_of, value_of, tag_of, IsMutation, AreMutations}
 use Rattle.record_form.proofs.HeaderLemmas.{both_true}
 use Rattle.record_form.proofs.ReadsLemmas.{inside}
 use Rattle.record_form.proofs.FormLemmas.{IsForm}
@@ -23,15 +24,15 @@ pub within : (least most n : ℕ) → is_within least most n ≡ true → (least
 within least most n is = let b = both_true (nat_le least n) (nat_le n most) is in (leb-true least n b.0, leb-true n most b.1)
 
 name_is : IsForm name_form
-name_is = headed_is 1 OutOfRange (is_within 1 most_name_bytes) length (characters (All IsNameByte) first_bad_in_name 1) (omega arith) (λ e. absurd cc)
+name_is = headed_is 1 OutOfRange (is_within 1 most_name_bytes) length (characters NameText (All IsNameByte) first_bad_in_name 1) (omega arith) (λ e. absurd cc)
     (λ n is. omega (arith, within 1 most_name_bytes n is)) (λ n is. name_text_is n) (λ n x is fits. fits.0) 1 refl
 
 key_is : IsForm key_form
-key_is = headed_is 2 OutOfRange (is_within 1 most_key_bytes) length (characters IsUtf8 first_bad_in_utf8 4) (omega arith) (λ e. absurd cc)
+key_is = headed_is 2 OutOfRange (is_within 1 most_key_bytes) length (characters Utf8Text IsUtf8 first_bad_in_utf8 4) (omega arith) (λ e. absurd cc)
     (λ n is. omega (arith, within 1 most_key_bytes n is)) (λ n is. utf8_text_is n) (λ n x is fits. fits.0) 1 refl
 
 value_is : IsForm value_form
-value_is = headed_is 4 OutOfRange (is_within 0 most_value_bytes) length (characters IsUtf8 first_bad_in_utf8 4) (omega arith) (λ e. absurd cc)
+value_is = headed_is 4 OutOfRange (is_within 0 most_value_bytes) length (characters Utf8Text IsUtf8 first_bad_in_utf8 4) (omega arith) (λ e. absurd cc)
     (λ n is. omega (arith, within 0 most_value_bytes n is)) (λ n is. utf8_text_is n) (λ n x is fits. fits.0) 0 refl
 
 pair_is : IsForm pair_form

@@ -1,11 +1,12 @@
 -- A number that decides what follows makes a form.
-use Rattle.std.proofs.Common.{◌≡◌, ◌≢◌, ℕ, ◌^◌, ◌<◌, ◌≤◌, Bool, true, false, cond, ltb, List, [], ◌++◌, length, take, drop, Ok, Err, refl, sym, ap, subst, ◌∙◌, arith, append_assoc}
+use Rattle.std.proofs.Common.{◌≡◌, ◌≢◌, inl, inr, ℕ, ◌^◌, ◌<◌, ◌≤◌, Bool, true, false, cond, ltb, List, [], ◌∷◌, ◌++◌, length, take, drop, Ok, Err, refl, sym, ap, subst, ◌∙◌, arith, append_assoc}
 use Rattle.std.proofs.lemmas.Bool.{ltb-false, ltb-true, le-ltb}
 use Rattle.std.proofs.lemmas.List.{take_at, drop_at, take-append-drop, append-nil, length-take-le, length-append}
+use Rattle.std.proofs.lemmas.List.Concat.{flat_map-cons}
 use Rattle.byte_fields.specs.Numbers.{big_endian, bytes_of}
 use Rattle.byte_fields.proofs.NumbersLemmas.{AreBytes, AreBytes-bytes_of, big_endian-lt, big_endian-bytes_of, length-bytes_of, bytes_of-big_endian, bytes_of-injective}
-use Rattle.record_form.specs.Form.{FaultKind, TooShort, Stop, Form, ends_early, number_at, headed}
-use Rattle.record_form.specs.Prefix.{Begins, IsPossible, StopsWith}
+use Rattle.record_form.specs.Form.{FaultKind, TooShort, Stop, FormField, Number, field_text, fields_text, Form, ends_early, number_at, headed}
+use Rattle.record_form.specs.Prefix.{Begins, IsPossible, HasField, end_stop, StopsWith}
 use Rattle.record_form.proofs.BytesLemmas.{AreBytes-append}
 use Rattle.record_form.proofs.HeaderLemmas.{AreBytes-take}
 use Rattle.record_form.proofs.FormLemmas.{IsForm, bind_ok, bind_err, First, Second, AreBytes-rest, guard_ok, guard_err, Refused, Passed}
@@ -14,10 +15,7 @@ pub short_ok : {A : Type 0} (b : Bool) (x y : A) → cond b ends_early (Ok x) �
 short_ok true x y e = absurd cc
 short_ok false x y e = (refl, cc)
 
-abbrev pub early_stop : Stop
-early_stop = record { kind = TooShort; size = 0; left = [] }
-
-pub short_err : {A : Type 0} (b : Bool) (x : A) (stop : Stop) → cond b ends_early (Ok x) ≡ Err stop → (b ≡ true) × (early_stop ≡ stop)
+pub short_err : {A : Type 0} (b : Bool) (x : A) (stop : Stop) → cond b ends_early (Ok x) ≡ Err stop → (b ≡ true) × (end_stop ≡ stop)
 short_err true x stop e = (refl, cc)
 short_err false x stop e = absurd cc
 
@@ -80,6 +78,22 @@ module _ {A : Type 0} (size : ℕ) (kind : FaultKind) (allowed : ℕ → Bool) (
   begins_following n prefix is b =
       (b.0, b.1, whole_fits n b.0 is b.2, append_assoc (bytes_of size n) prefix b.1 ∙ ap (λ (l : List ℕ). bytes_of size n ++ l) b.3 ∙ whole_text n b.0 is b.2)
 
+  whole_fields : (n : ℕ) (x : A) → allowed n ≡ true → (following n).Fits x → Number kind size n ∷ (following n).fields x ≡ whole.fields x
+  whole_fields n x is fit = ap (λ (m : ℕ). Number kind size m ∷ (following m).fields x) (sym (right n x is fit))
+
+  head_spelled : (x : A) → whole.Fits x → fields_text (whole.fields x) ≡ whole.text x
+  head_spelled x h = flat_map-cons field_text (Number kind size (head x)) ((following (head x)).fields x) ∙ ap (λ (l : List ℕ). bytes_of size (head x) ++ l) ((each (head x) h.0).spelled x h.1)
+
+  has_number : HasField whole [] (Number kind size (head head_some.0))
+  has_number = (head_some.0, (following (head head_some.0)).fields head_some.0, head_some.1, refl)
+
+  has_following : (n : ℕ) (earlier : List FormField) (field : FormField) → allowed n ≡ true → HasField (following n) earlier field → HasField whole (Number kind size n ∷ earlier) field
+  has_following n earlier field is h = (h.0, h.1, whole_fits n h.0 is h.2, sym (whole_fields n h.0 is h.2) ∙ ap (λ (l : List FormField). Number kind size n ∷ l) h.3)
+
+  split_following : (n : ℕ) (bytes rest last : List ℕ) (earlier : List FormField) → bytes ≡ bytes_of size n ++ rest → rest ≡ fields_text earlier ++ last → bytes ≡ fields_text (Number kind size n ∷ earlier) ++ last
+  split_following n bytes rest last earlier here split =
+      here ∙ ap (λ (l : List ℕ). bytes_of size n ++ l) split ∙ sym (append_assoc (bytes_of size n) (fields_text earlier) last) ∙ ap (λ (l : List ℕ). l ++ last) (sym (flat_map-cons field_text (Number kind size n) earlier))
+
   possible_following : (n : ℕ) (prefix : List ℕ) → allowed n ≡ true → IsPossible whole (bytes_of size n ++ prefix) → IsPossible (following n) prefix
   possible_following n prefix is m =
       let x = m.0 in
@@ -98,18 +112,30 @@ module _ {A : Type 0} (size : ℕ) (kind : FaultKind) (allowed : ℕ → Bool) (
       let yes : allowed n ≡ true = ap allowed same.0 ∙ m.3.0 in
       absurd cc
 
-  stops_cut : (bytes : List ℕ) → length bytes < size → StopsWith whole bytes early_stop
+  stops_cut : (bytes : List ℕ) → length bytes < size → StopsWith whole bytes end_stop
   stops_cut bytes few = record {
+    earlier = [];
+    field = Number kind size (head head_some.0);
+    rest = bytes;
+    has = has_number;
+    split = refl;
+    within = inl (few, refl);
     before = [];
     cut = bytes;
     parts = sym (append-nil bytes);
     begins = begins_none;
-    early = λ is. (refl, omega arith);
+    early = λ is. (refl, tt);
     nothing = λ wrong. absurd (wrong refl);
   }
 
   stops_refused : (n : ℕ) (bytes rest : List ℕ) → n < 256 ^ size → allowed n ≡ false → bytes ≡ bytes_of size n ++ rest → StopsWith whole bytes (refused bytes)
   stops_refused n bytes rest below denied here = record {
+    earlier = [];
+    field = Number kind size (head head_some.0);
+    rest = bytes;
+    has = has_number;
+    split = refl;
+    within = inr (omega (arith, ap length here, length-append (bytes_of size n) rest, length-bytes_of size n), not_short, refl);
     before = [];
     cut = [];
     parts = refl;
@@ -120,6 +146,12 @@ module _ {A : Type 0} (size : ℕ) (kind : FaultKind) (allowed : ℕ → Bool) (
 
   stops_following : (n : ℕ) (bytes rest : List ℕ) (stop : Stop) → allowed n ≡ true → bytes ≡ bytes_of size n ++ rest → StopsWith (following n) rest stop → StopsWith whole bytes stop
   stops_following n bytes rest stop is here s = record {
+    earlier = Number kind size n ∷ s.earlier;
+    field = s.field;
+    rest = s.rest;
+    has = has_following n s.earlier s.field is s.has;
+    split = split_following n bytes rest s.rest s.earlier here s.split;
+    within = s.within;
     before = bytes_of size n ++ s.before;
     cut = s.cut;
     parts = here ∙ ap (λ (l : List ℕ). bytes_of size n ++ l) s.parts ∙ sym (append_assoc (bytes_of size n) s.before (s.cut ++ stop.left));
@@ -143,4 +175,4 @@ module _ {A : Type 0} (size : ℕ) (kind : FaultKind) (allowed : ℕ → Bool) (
       ]
 
   pub headed_is : IsForm (headed size kind allowed head following)
-  headed_is = record { takes = head_takes; again = head_again; stops = head_stops; bytes = λ x h. AreBytes-append (bytes_of size (head x)) ((following (head x)).text x) (AreBytes-bytes_of size (head x)) ((each (head x) h.0).bytes x h.1); some = head_some }
+  headed_is = record { takes = head_takes; again = head_again; stops = head_stops; spelled = head_spelled; bytes = λ x h. AreBytes-append (bytes_of size (head x)) ((following (head x)).text x) (AreBytes-bytes_of size (head x)) ((each (head x) h.0).bytes x h.1); some = head_some }

@@ -3,7 +3,7 @@ use Rattle.std.proofs.Common.{◌≡◌, ℕ, zero, suc, List, [], ◌∷◌, �
 use Rattle.std.specs.List.{flat_map, AllByRecursion}
 use Rattle.std.proofs.lemmas.List.Concat.{flat_map-cons}
 use Rattle.byte_fields.proofs.NumbersLemmas.{AreBytes}
-use Rattle.record_form.specs.Form.{Stop, Form, ◌>>=◌, ◌then◌, read_many, many}
+use Rattle.record_form.specs.Form.{Stop, fields_text, Form, ◌>>=◌, ◌then◌, read_many, many}
 use Rattle.record_form.proofs.BytesLemmas.{AreBytes-nil}
 use Rattle.record_form.proofs.FormLemmas.{IsForm, ok_is}
 use Rattle.record_form.proofs.ThenLemmas.{then_is, like_is}
@@ -40,12 +40,17 @@ module _ {A : Type 0} (f : Form A) (is : IsForm f) where
   none_bytes [] h = AreBytes-nil
   none_bytes (x ∷ xs) h = absurd (omega arith)
 
+  none_spelled : (xs : List A) → length xs ≡ 0 → fields_text (flat_map f.fields xs) ≡ flat_map f.text xs
+  none_spelled [] h = refl
+  none_spelled (x ∷ xs) h = absurd (omega arith)
+
   none_is : IsForm (many f 0)
   unfolding read_many
   none_is = record {
     takes = λ bytes xs rest are e. subst (λ (y : List A × List ℕ). (bytes ≡ flat_map f.text y.0 ++ y.1) × ((length y.0 ≡ 0) × AllByRecursion f.Fits y.0)) (ok_is ([], bytes) (xs, rest) e) (refl, (refl, tt));
     again = λ xs rest h. none_again xs rest h.0;
     stops = λ bytes stop are e. absurd cc;
+    spelled = λ xs h. none_spelled xs h.0;
     bytes = λ xs h. none_bytes xs h.0;
     some = ([], (refl, tt));
   }
@@ -57,6 +62,10 @@ module _ {A : Type 0} (f : Form A) (is : IsForm f) where
   more_text : (n : ℕ) (xs : List A) → (many f (suc n)).Fits xs → flat_map f.text xs ≡ f.text (first_of xs).0 ++ flat_map f.text (first_of xs).1
   more_text n [] h = absurd (omega (arith, h.0))
   more_text n (x ∷ xs) h = flat_map-cons f.text x xs
+
+  more_fields : (n : ℕ) (xs : List A) → (many f (suc n)).Fits xs → flat_map f.fields xs ≡ f.fields (first_of xs).0 ++ flat_map f.fields (first_of xs).1
+  more_fields n [] h = absurd (omega (arith, h.0))
+  more_fields n (x ∷ xs) h = flat_map-cons f.fields x xs
 
   more_fits : (n : ℕ) (xs : List A) → (many f (suc n)).Fits xs → (f then many f n).Fits (first_of xs) × (xs ≡ (first_of xs).0 ∷ (first_of xs).1)
   more_fits n [] h = absurd (omega (arith, h.0))
@@ -71,4 +80,4 @@ module _ {A : Type 0} (f : Form A) (is : IsForm f) where
 
   pub many_is : (n : ℕ) → IsForm (many f n)
   many_is zero = none_is
-  many_is (suc n) = like_is (f then many f n) (many f (suc n)) (λ x. x.0 ∷ x.1) first_of (then_is f (many f n) is (many_is n)) (more_text n) (more_fits n) (more_made n) (more_reads n)
+  many_is (suc n) = like_is (f then many f n) (many f (suc n)) (λ x. x.0 ∷ x.1) first_of (then_is f (many f n) is (many_is n)) (more_text n) (more_fields n) (more_fits n) (more_made n) (more_reads n)

@@ -6,8 +6,8 @@ use Rattle.std.proofs.lemmas.List.Elements.{All-append}
 use Rattle.std.proofs.lemmas.Str.{IsUtf8-from_ascii}
 use Rattle.std.specs.Str.{IsUtf8}
 use Rattle.cache_key.specs.Names.{is_name_byte, IsNameByte}
-use Rattle.record_form.specs.Form.{Form, characters}
-use Rattle.record_form.specs.Prefix.{Begins, IsPossible}
+use Rattle.record_form.specs.Form.{BadByte, NameText, Form, characters}
+use Rattle.record_form.specs.Prefix.{Begins, IsPossible, StopsWithin}
 use Rattle.record_form.specs.Characters as characters_of
 use Rattle.record_form.specs.Characters.{name_prefix_length, first_bad_in_name, completes, may_continue, first_bad_in_utf8}
 use Rattle.record_form.proofs.BytesLemmas.{AreBytes-utf8}
@@ -68,7 +68,7 @@ none_is true n e = absurd cc
 none_is false n e = refl
 
 abbrev a_name : ℕ → Form (List ℕ)
-a_name count = characters (All IsNameByte) first_bad_in_name 1 count
+a_name count = characters NameText (All IsNameByte) first_bad_in_name 1 count
 
 -- bytes of the alphabet begin a name that is no shorter
 names_begin : (count : ℕ) (prefix : List ℕ) → length prefix ≤ count → All IsNameByte prefix → Begins (a_name count) prefix
@@ -119,9 +119,18 @@ name_bad count bytes offset is =
           absurd cc,
     )
 
+name_within : (count : ℕ) (text bytes : List ℕ) (offset : ℕ) → length text ≡ count → first_bad_in_name count (take count bytes) ≡ Some offset
+    → StopsWithin (NameText text) bytes (record { kind = BadByte; size = 1; left = drop offset bytes })
+name_within count text bytes offset size is =
+    let prefix = take count bytes in
+    let s = some_is (ltb (name_prefix_length prefix) (length prefix)) (name_prefix_length prefix) offset is in
+    let within = ltb-true (name_prefix_length prefix) (length prefix) s.0 in
+    let bounds = length-take count bytes in
+    inr (offset, omega (arith, s.1, bounds, size), omega (arith, s.1, bounds), refl)
+
 pub name_text_is : (count : ℕ) → IsForm (a_name count)
 name_text_is count =
-    characters_is (All IsNameByte) first_bad_in_name 1 count (omega arith) (name_passes count) (name_again count) (λ prefix short is. names_begin count prefix (omega arith) (name_passes (length prefix) prefix refl is)) (name_bad count) (λ text all. AreBytes-utf8 text (name_is_utf8 text all))
+    characters_is NameText (All IsNameByte) first_bad_in_name 1 count (omega arith) (name_passes count) (name_again count) (λ prefix short is. names_begin count prefix (omega arith) (name_passes (length prefix) prefix refl is)) (name_bad count) (λ text. refl) (λ text. refl) (λ text bytes few. inl (few, refl)) (name_within count) (λ text all. AreBytes-utf8 text (name_is_utf8 text all))
     (filled count, length-filled count, filled_names count)
 
 -- bytes that are all of the alphabet are UTF-8

@@ -12,7 +12,7 @@ use Rattle.record_form.specs.Form.{Stop, ◌>>=◌, OutOfRange, stop_fault, read
 use Rattle.record_form.specs.Reads.{outcome}
 use Rattle.record_form.specs.GroupText.{name_form, key_form, pair_form, pairs_form, put_form, remove_form, batch_form, group_form}
 use Rattle.record_form.specs.GroupFault as group_fault
-use Rattle.record_form.specs.GroupFault.{group_at, group_fault}
+use Rattle.record_form.specs.GroupFault.{group_at, bytes_fault}
 
 -- what is made of a value doesn't change where reading ends
 abbrev mapped : {A B : Type 0} → (A → B) → A × List ℕ → Result (B × List ℕ) Stop
@@ -91,7 +91,7 @@ ended_fault : (payload : List ℕ) (r : Result (List Mutation × List ℕ) Stop)
 ended_fault payload (Ok x) fault is = absurd cc
 ended_fault payload (Err stop) fault is = let same : stop_fault payload stop ≡ fault = cc in ap Some same
 
-pub fault_there : (payload : List ℕ) (fault : RecordFault) → outcome payload (group_form.read payload) ≡ Err fault → group_fault payload ≡ Some fault
+pub fault_there : (payload : List ℕ) (fault : RecordFault) → outcome payload (group_form.read payload) ≡ Err fault → bytes_fault payload ≡ Some fault
 unfolding group_fault.group_at
 fault_there payload fault is = ended_fault payload (group_form.read payload) fault is
 
@@ -99,7 +99,7 @@ ended_none : (payload rest : List ℕ) (r : Result (List Mutation × List ℕ) S
 ended_none payload rest (Ok x) is none = let left : x.1 ≡ [] = same_left x.1 rest is ∙ none in ap (λ (l : List ℕ). reading_fault payload (ended (x.0, l))) left
 ended_none payload rest (Err stop) is none = absurd cc
 
-pub none_left : (payload rest : List ℕ) → outcome payload (group_form.read payload) ≡ Ok rest → rest ≡ [] → group_fault payload ≡ None
+pub none_left : (payload rest : List ℕ) → outcome payload (group_form.read payload) ≡ Ok rest → rest ≡ [] → bytes_fault payload ≡ None
 unfolding group_fault.group_at
 none_left payload rest is none = ended_none payload rest (group_form.read payload) is none
 
@@ -114,7 +114,7 @@ ended_some payload rest (Ok x) is some =
 ended_some payload rest (Err stop) is some = absurd cc
 
 pub some_left : (payload : List ℕ) (old : Reading) (offset : ℕ) → outcome payload (group_form.read payload) ≡ Ok (rest_of old) → old.text ≡ payload → old.offset ≡ offset → offset ≤ length payload → rest_of old ≢ []
-    → group_fault payload ≡ Some (Range offset)
+    → bytes_fault payload ≡ Some (Range offset)
 unfolding group_fault.group_at
 some_left payload old offset is text here within some =
     let there : length payload - length (rest_of old) ≡ offset = omega (arith, length-drop old.offset old.text, ap length text) in

@@ -1,8 +1,9 @@
 -- One form and then another is a form, and so is a form whose values are seen as others.
-use Rattle.std.proofs.Common.{◌≡◌, ℕ, List, ◌++◌, take, Result, Ok, Err, refl, sym, ap, subst, ◌∙◌, append_assoc}
+use Rattle.std.proofs.Common.{◌≡◌, ℕ, List, ◌∷◌, ◌++◌, take, Result, Ok, Err, refl, sym, ap, subst, ◌∙◌, append_assoc}
+use Rattle.std.proofs.lemmas.List.Concat.{flat_map-append}
 use Rattle.byte_fields.proofs.NumbersLemmas.{AreBytes}
-use Rattle.record_form.specs.Form.{Stop, Form, ◌>>=◌, ◌then◌, seen_as}
-use Rattle.record_form.specs.Prefix.{Begins, IsPossible, StopsWith}
+use Rattle.record_form.specs.Form.{Stop, FormField, field_text, fields_text, Form, ◌>>=◌, ◌then◌, seen_as}
+use Rattle.record_form.specs.Prefix.{Begins, IsPossible, HasField, StopsWith}
 use Rattle.record_form.proofs.BytesLemmas.{AreBytes-append}
 use Rattle.record_form.proofs.FormLemmas.{IsForm, bind_ok, bind_err, First, Second, done, ok_is, AreBytes-rest}
 
@@ -44,8 +45,33 @@ module _ {A B : Type 0} (f : Form A) (g : Form B) (is : IsForm f) (also : IsForm
       let same = ok_is (x, prefix ++ m.1) (m.0.0, g.text m.0.1 ++ m.2) (sym (is.again x (prefix ++ m.1) fits) ∙ ap f.read grouped ∙ is.again m.0.0 (g.text m.0.1 ++ m.2) m.3.0) in
       (m.0.1, m.1, m.2, m.3.1, ap (λ (y : A × List ℕ). y.1) same)
 
+  then_spelled : (x : A × B) → both.Fits x → fields_text (both.fields x) ≡ both.text x
+  then_spelled x fits = flat_map-append field_text (f.fields x.0) (g.fields x.1) ∙ (λ i. is.spelled x.0 fits.0 i ++ also.spelled x.1 fits.1 i)
+
+  has_first : (earlier : List FormField) (field : FormField) → HasField f earlier field → HasField both earlier field
+  has_first earlier field h = (
+    (h.0, also.some.0),
+    h.1 ++ g.fields also.some.0,
+    (h.2, also.some.1),
+    ap (λ (l : List FormField). l ++ g.fields also.some.0) h.3 ∙ append_assoc earlier (field ∷ h.1) (g.fields also.some.0),
+  )
+
+  has_second : (x : A) (earlier : List FormField) (field : FormField) → f.Fits x → HasField g earlier field → HasField both (f.fields x ++ earlier) field
+  has_second x earlier field fits h = ((x, h.0), h.1, (fits, h.2), ap (λ (l : List FormField). f.fields x ++ l) h.3 ∙ sym (append_assoc (f.fields x) earlier (field ∷ h.1)))
+
+  split_second : (bytes : List ℕ) (x : A) (rest last : List ℕ) (earlier : List FormField) → f.Fits x → bytes ≡ f.text x ++ rest → rest ≡ fields_text earlier ++ last → bytes ≡ fields_text (f.fields x ++ earlier) ++ last
+  split_second bytes x rest last earlier fits here split =
+      let spelled : fields_text (f.fields x ++ earlier) ≡ f.text x ++ fields_text earlier = flat_map-append field_text (f.fields x) earlier ∙ ap (λ (l : List ℕ). l ++ fields_text earlier) (is.spelled x fits) in
+      here ∙ ap (λ (l : List ℕ). f.text x ++ l) split ∙ sym (append_assoc (f.text x) (fields_text earlier) last) ∙ ap (λ (l : List ℕ). l ++ last) (sym spelled)
+
   stops_first : (bytes : List ℕ) (stop : Stop) → StopsWith f bytes stop → StopsWith both bytes stop
   stops_first bytes stop s = record {
+    earlier = s.earlier;
+    field = s.field;
+    rest = s.rest;
+    has = has_first s.earlier s.field s.has;
+    split = s.split;
+    within = s.within;
     before = s.before;
     cut = s.cut;
     parts = s.parts;
@@ -56,6 +82,12 @@ module _ {A B : Type 0} (f : Form A) (g : Form B) (is : IsForm f) (also : IsForm
 
   stops_second : (bytes : List ℕ) (x : A) (rest : List ℕ) (stop : Stop) → f.Fits x → bytes ≡ f.text x ++ rest → StopsWith g rest stop → StopsWith both bytes stop
   stops_second bytes x rest stop fits here s = record {
+    earlier = f.fields x ++ s.earlier;
+    field = s.field;
+    rest = s.rest;
+    has = has_second x s.earlier s.field fits s.has;
+    split = split_second bytes x rest s.rest s.earlier fits here s.split;
+    within = s.within;
     before = f.text x ++ s.before;
     cut = s.cut;
     parts = here ∙ ap (λ (l : List ℕ). f.text x ++ l) s.parts ∙ sym (append_assoc (f.text x) s.before (s.cut ++ stop.left));
@@ -77,10 +109,11 @@ module _ {A B : Type 0} (f : Form A) (g : Form B) (is : IsForm f) (also : IsForm
       ]
 
   pub then_is : IsForm (f then g)
-  then_is = record { takes = then_takes; again = then_again; stops = then_stops; bytes = λ x h. AreBytes-append (f.text x.0) (g.text x.1) (is.bytes x.0 h.0) (also.bytes x.1 h.1); some = ((is.some.0, also.some.0), (is.some.1, also.some.1)) }
+  then_is = record { takes = then_takes; again = then_again; stops = then_stops; spelled = then_spelled; bytes = λ x h. AreBytes-append (f.text x.0) (g.text x.1) (is.bytes x.0 h.0) (also.bytes x.1 h.1); some = ((is.some.0, also.some.0), (is.some.1, also.some.1)) }
 
 module _ {A B : Type 0} (f : Form A) (g : Form B) (to : A → B) (back : B → A) (is : IsForm f)
     (texts : (y : B) → g.Fits y → g.text y ≡ f.text (back y))
+    (listed : (y : B) → g.Fits y → g.fields y ≡ f.fields (back y))
     (fits : (y : B) → g.Fits y → f.Fits (back y) × (y ≡ to (back y)))
     (made : (x : A) → f.Fits x → g.Fits (to x) × (back (to x) ≡ x))
     (reads : (bytes : List ℕ) → g.read bytes ≡ (f.read bytes >>= λ x. Ok (to x.0, x.1))) where
@@ -108,12 +141,24 @@ module _ {A B : Type 0} (f : Form A) (g : Form B) (to : A → B) (back : B → A
   like_possible : (prefix : List ℕ) → IsPossible g prefix → IsPossible f prefix
   like_possible prefix m = (back m.0, m.1, m.2, (fits m.0 m.3).0, m.4 ∙ ap (λ (l : List ℕ). l ++ m.2) (texts m.0 m.3))
 
+  like_spelled : (y : B) → g.Fits y → fields_text (g.fields y) ≡ g.text y
+  like_spelled y is_fit = ap fields_text (listed y is_fit) ∙ is.spelled (back y) (fits y is_fit).0 ∙ sym (texts y is_fit)
+
+  like_has : (earlier : List FormField) (field : FormField) → HasField f earlier field → HasField g earlier field
+  like_has earlier field h = (to h.0, h.1, (made h.0 h.2).0, listed (to h.0) (made h.0 h.2).0 ∙ ap f.fields (made h.0 h.2).1 ∙ h.3)
+
   like_stops : (bytes : List ℕ) (stop : Stop) → AreBytes bytes → g.read bytes ≡ Err stop → StopsWith g bytes stop
   like_stops bytes stop are e =
       elim (bind_err (f.read bytes) (λ x. Ok (to x.0, x.1)) stop (sym (reads bytes) ∙ e)) [
         | First first ↦
             let s = is.stops bytes stop are first in
             record {
+              earlier = s.earlier;
+              field = s.field;
+              rest = s.rest;
+              has = like_has s.earlier s.field s.has;
+              split = s.split;
+              within = s.within;
               before = s.before;
               cut = s.cut;
               parts = s.parts;
@@ -125,8 +170,8 @@ module _ {A B : Type 0} (f : Form A) (g : Form B) (to : A → B) (back : B → A
       ]
 
   pub like_is : IsForm g
-  like_is = record { takes = like_takes; again = like_again; stops = like_stops; bytes = λ y h. subst AreBytes (sym (texts y h)) (is.bytes (back y) (fits y h).0); some = (to is.some.0, (made is.some.0 is.some.1).0) }
+  like_is = record { takes = like_takes; again = like_again; stops = like_stops; spelled = like_spelled; bytes = λ y h. subst AreBytes (sym (texts y h)) (is.bytes (back y) (fits y h).0); some = (to is.some.0, (made is.some.0 is.some.1).0) }
 
 pub seen_is : {A B : Type 0} (f : Form A) (to : A → B) (back : B → A) → IsForm f → ((x : A) → back (to x) ≡ x) → IsForm (seen_as to back f)
 seen_is f to back is same =
-    like_is f (seen_as to back f) to back is (λ y h. refl) (λ y h. h) (λ x h. ((subst f.Fits (sym (same x)) h, ap to (sym (same x))), same x)) (λ bytes. refl)
+    like_is f (seen_as to back f) to back is (λ y h. refl) (λ y h. refl) (λ y h. h) (λ x h. ((subst f.Fits (sym (same x)) h, ap to (sym (same x))), same x)) (λ bytes. refl)

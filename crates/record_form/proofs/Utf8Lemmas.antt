@@ -7,8 +7,8 @@ use Rattle.std.proofs.lemmas.List.{take-append-le, take_all}
 use Rattle.std.specs.Str.{IsUtf8, is_utf8}
 use Rattle.std.specs.Str.Lossy as lossy
 use Rattle.std.specs.Str.Lossy.{utf8_valid_len, valid_len_up_to}
-use Rattle.record_form.specs.Form.{Form, characters}
-use Rattle.record_form.specs.Prefix.{Begins, IsPossible}
+use Rattle.record_form.specs.Form.{BadByte, Utf8Text, Form, characters}
+use Rattle.record_form.specs.Prefix.{Begins, IsPossible, StopsWithin}
 use Rattle.record_form.specs.Characters.{completes, may_continue, first_bad_in_utf8}
 use Rattle.record_form.proofs.HeaderLemmas.{take_prefix, take_on, both_true}
 use Rattle.record_form.proofs.BytesLemmas.{AreBytes-utf8}
@@ -33,7 +33,7 @@ unfolding lossy.utf8_valid_len
 prefix_is_utf8 bytes = prefix_up_to bytes (length bytes)
 
 abbrev a_utf8 : ℕ → Form (List ℕ)
-a_utf8 count = characters IsUtf8 first_bad_in_utf8 4 count
+a_utf8 count = characters Utf8Text IsUtf8 first_bad_in_utf8 4 count
 
 utf8_begin : (count : ℕ) (prefix : List ℕ) → length prefix ≤ count → IsUtf8 prefix → Begins (a_utf8 count) prefix
 utf8_begin count prefix short is =
@@ -233,9 +233,28 @@ utf8_bad count bytes offset is =
           absurd cc,
     )
 
+utf8_within : (count : ℕ) (text bytes : List ℕ) (offset : ℕ) → length text ≡ count → first_bad_in_utf8 count (take count bytes) ≡ Some offset
+    → StopsWithin (Utf8Text text) bytes (record { kind = BadByte; size = 4; left = drop offset bytes })
+utf8_within count text bytes offset size is =
+    let prefix = take count bytes in
+    let valid = utf8_valid_len prefix in
+    let s = may_not (may_continue (drop valid prefix) (count - valid)) valid offset is in
+    let le = utf8_valid_len_le prefix in
+    let bounds = length-take count bytes in
+    let within : valid < length prefix =
+    ⊎_elim (λ low. low) (λ (all : length prefix ≤ valid). let never = ap (λ (l : List ℕ). may_continue l (count - valid)) (drop_all valid prefix all) in absurd cc) (cases_lt valid (length prefix)) in
+    inr (
+      offset,
+      omega (arith, s.1, bounds, size),
+      omega (arith, s.1, bounds),
+      refl,
+      subst (λ (n : ℕ). IsUtf8 (take n bytes)) s.1 (subst IsUtf8 (take_take valid count bytes (omega (arith, bounds))) (prefix_is_utf8 prefix)),
+      λ longer most there good. let most_valid = longest prefix longer (omega (arith, bounds, size)) (subst IsUtf8 (sym (take_take longer count bytes (omega (arith, size)))) good) in omega (arith, most_valid, s.1),
+    )
+
 pub utf8_text_is : (count : ℕ) → IsForm (a_utf8 count)
 utf8_text_is count =
-    characters_is IsUtf8 first_bad_in_utf8 4 count (omega arith) (utf8_passes count) (utf8_again count) (λ prefix short is. utf8_goes_on count prefix (omega arith) is) (utf8_bad count) AreBytes-utf8
+    characters_is Utf8Text IsUtf8 first_bad_in_utf8 4 count (omega arith) (utf8_passes count) (utf8_again count) (λ prefix short is. utf8_goes_on count prefix (omega arith) is) (utf8_bad count) (λ text. refl) (λ text. refl) (λ text bytes few. inl (few, refl)) (utf8_within count) AreBytes-utf8
     (filled count, length-filled count, filled_utf8 count)
 
 false_unless : (b : Bool) → (b ≡ true → ⊥) → b ≡ false

@@ -19,10 +19,28 @@ pub record Stop : Type 0 where
   pub size : ℕ
   pub left : List ℕ
 
--- A form: how a value is spelled, which values have a spelling, and what reading from the left gives, which is the value
--- and the bytes after it, or where the bytes stop being of the form.
+-- A field of a text: a number of so many bytes, with the kind of fault that one outside its limits is; a text of the
+-- alphabet of names; or one of UTF-8.
+pub data FormField : Type 0 where
+  Number : FaultKind → ℕ → ℕ → FormField
+  NameText : List ℕ → FormField
+  Utf8Text : List ℕ → FormField
+
+-- the bytes of a field
+abbrev pub field_text : FormField → List ℕ
+field_text (Number kind size number) = bytes_of size number
+field_text (NameText text) = text
+field_text (Utf8Text text) = text
+
+-- the bytes of fields, one after the other
+abbrev pub fields_text : List FormField → List ℕ
+fields_text fields = flat_map field_text fields
+
+-- A form: how a value is spelled, and of which fields; which values have a spelling; and what reading from the left gives,
+-- which is the value and the bytes after it, or where the bytes stop being of the form.
 pub record Form (A : Type 0) : Type 1 where
   pub text : A → List ℕ
+  pub fields : A → List FormField
   pub Fits : A → Type 0
   pub read : List ℕ → Result (A × List ℕ) Stop
 
@@ -44,6 +62,7 @@ number_at size bytes = if nat_lt (length bytes) size then ends_early else Ok (bi
 abbrev pub headed : {A : Type 0} → ℕ → FaultKind → (ℕ → Bool) → (A → ℕ) → (ℕ → Form A) → Form A
 headed size kind allowed head following = record {
   text = λ x. bytes_of size (head x) ++ (following (head x)).text x;
+  fields = λ x. Number kind size (head x) ∷ (following (head x)).fields x;
   Fits = λ x. (allowed (head x) ≡ true) × (following (head x)).Fits x;
   read = λ bytes. number_at size bytes >>= λ n. if allowed n.0 then (following n.0).read n.1 else Err (record { kind = kind; size = size; left = bytes });
 }
@@ -58,6 +77,7 @@ infixr 20 ◌then◌
 abbrev pub ◌then◌ : {A B : Type 0} → Form A → Form B → Form (A × B)
 f then g = record {
   text = λ x. f.text x.0 ++ g.text x.1;
+  fields = λ x. f.fields x.0 ++ g.fields x.1;
   Fits = λ x. f.Fits x.0 × g.Fits x.1;
   read = λ bytes. f.read bytes >>= λ x. g.read x.1 >>= λ y. Ok ((x.0, y.0), y.1);
 }
@@ -66,6 +86,7 @@ f then g = record {
 abbrev pub seen_as : {A B : Type 0} → (A → B) → (B → A) → Form A → Form B
 seen_as to back f = record {
   text = λ y. f.text (back y);
+  fields = λ y. f.fields (back y);
   Fits = λ y. f.Fits (back y) × (y ≡ to (back y));
   read = λ bytes. f.read bytes >>= λ x. Ok (to x.0, x.1);
 }
@@ -78,6 +99,7 @@ read_many read (suc n) bytes = read bytes >>= λ x. read_many read n x.1 >>= λ 
 abbrev pub many : {A : Type 0} → Form A → ℕ → Form (List A)
 many f n = record {
   text = λ xs. flat_map f.text xs;
+  fields = λ xs. flat_map f.fields xs;
   Fits = λ xs. (length xs ≡ n) × AllByRecursion f.Fits xs;
   read = read_many f.read n;
 }
@@ -87,11 +109,12 @@ abbrev pub characters_at : Option ℕ → ℕ → ℕ → List ℕ → Result (L
 characters_at (Some offset) size count bytes = Err (record { kind = BadByte; size = size; left = drop offset bytes })
 characters_at None size count bytes = if nat_lt (length bytes) count then ends_early else Ok (take count bytes, drop count bytes)
 
--- A text of so many bytes. `first_bad` finds the first byte that can't stand in such a text, of which these bytes are there;
+-- A text of so many bytes, which is one field. `first_bad` finds the first byte that can't stand in such a text, of which these bytes are there;
 -- `extent` is how many bytes from that one on show that it can't.
-abbrev pub characters : (List ℕ → Type 0) → (ℕ → List ℕ → Option ℕ) → ℕ → ℕ → Form (List ℕ)
-characters Is first_bad extent count = record {
+abbrev pub characters : (List ℕ → FormField) → (List ℕ → Type 0) → (ℕ → List ℕ → Option ℕ) → ℕ → ℕ → Form (List ℕ)
+characters field Is first_bad extent count = record {
   text = λ text. text;
+  fields = λ text. field text ∷ [];
   Fits = λ text. (length text ≡ count) × Is text;
   read = λ bytes. characters_at (first_bad count (take count bytes)) extent count bytes;
 }

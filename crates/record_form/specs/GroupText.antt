@@ -1,5 +1,5 @@
 -- The grammar of a group of mutations.
-use Rattle.std.specs.Prelude.{◌≡◌, ℕ, ◌+◌, ◌≤◌, ◌==◌, nat_le, Bool, ◌&&◌, List, [], ◌∷◌, ◌++◌, length, All}
+use Rattle.std.specs.Prelude.{◌≡◌, ℕ, ◌≤◌, ◌==◌, nat_le, Bool, ◌&&◌, List, [], ◌++◌, length, All}
 use Rattle.std.specs.List.{AllByRecursion}
 use Rattle.std.specs.Str.{IsUtf8}
 use Rattle.byte_fields.specs.Numbers.{bytes8}
@@ -7,7 +7,8 @@ use Rattle.byte_fields.specs.Counted.{counted32_text}
 use Rattle.cache_key.specs.Names.{IsNameByte, IsName, IsKey, IsValue, IsPair, most_name_bytes, most_key_bytes, most_value_bytes, most_pairs}
 use Rattle.cache_key.specs.declared.request.Mutation.{Mutation}
 use Rattle.cache_key.specs.declared.request.Mutation.TheVariants.{Put, Remove, Ensure, Truncate, Destroy, Batch}
-use Rattle.record_form.specs.Form.{BadTag, OutOfRange, Form, headed, choose, ◌then◌, seen_as, many, characters}
+use Rattle.cache_model.specs.PlainList.{pairs_of}
+use Rattle.record_form.specs.Form.{BadTag, OutOfRange, FormField, NameText, Utf8Text, Form, headed, choose, ◌then◌, seen_as, many, characters}
 use Rattle.record_form.specs.Characters.{first_bad_in_name, first_bad_in_utf8}
 
 -- the most mutations of a group
@@ -32,13 +33,13 @@ is_within least most number = nat_le least number && nat_le number most
 
 -- the fields: names, keys and values after their lengths in one, two and four bytes
 abbrev pub name_form : Form (List ℕ)
-name_form = headed 1 OutOfRange (is_within 1 most_name_bytes) length (characters (All IsNameByte) first_bad_in_name 1)
+name_form = headed 1 OutOfRange (is_within 1 most_name_bytes) length (characters NameText (All IsNameByte) first_bad_in_name 1)
 
 abbrev pub key_form : Form (List ℕ)
-key_form = headed 2 OutOfRange (is_within 1 most_key_bytes) length (characters IsUtf8 first_bad_in_utf8 4)
+key_form = headed 2 OutOfRange (is_within 1 most_key_bytes) length (characters Utf8Text IsUtf8 first_bad_in_utf8 4)
 
 abbrev pub value_form : Form (List ℕ)
-value_form = headed 4 OutOfRange (is_within 0 most_value_bytes) length (characters IsUtf8 first_bad_in_utf8 4)
+value_form = headed 4 OutOfRange (is_within 0 most_value_bytes) length (characters Utf8Text IsUtf8 first_bad_in_utf8 4)
 
 -- a key and its value
 abbrev pub pair_form : Form (List ℕ × List ℕ)
@@ -72,14 +73,6 @@ value_of (Ensure cache) = []
 value_of (Truncate cache) = []
 value_of (Destroy cache) = []
 value_of (Batch cache pairs) = []
-
-abbrev pub pairs_of : Mutation → List (List ℕ × List ℕ)
-pairs_of (Put cache key value) = []
-pairs_of (Remove cache key) = []
-pairs_of (Ensure cache) = []
-pairs_of (Truncate cache) = []
-pairs_of (Destroy cache) = []
-pairs_of (Batch cache pairs) = pairs
 
 -- the tag of a mutation
 abbrev pub tag_of : Mutation → ℕ
@@ -127,6 +120,10 @@ mutation_text mutation = mutation_form.text mutation
 abbrev pub group_text : List Mutation → List ℕ
 group_text mutations = group_form.text mutations
 
+-- the fields of mutations after their count, in their order
+abbrev pub group_fields : List Mutation → List FormField
+group_fields mutations = group_form.fields mutations
+
 -- a mutation that has a spelling: its texts are within their limits, and a batch has 1 to 64 pairs
 abbrev pub IsMutation : Mutation → Type 0
 IsMutation (Put cache key value) = IsName cache × IsKey key × IsValue value
@@ -135,15 +132,6 @@ IsMutation (Ensure cache) = IsName cache
 IsMutation (Truncate cache) = IsName cache
 IsMutation (Destroy cache) = IsName cache
 IsMutation (Batch cache pairs) = IsName cache × (1 ≤ length pairs) × (length pairs ≤ most_pairs) × AllByRecursion IsPair pairs
-
--- if it is a batch, it has pairs
-abbrev pub HasPairs : Mutation → Type 0
-HasPairs (Put cache key value) = Unit {0}
-HasPairs (Remove cache key) = Unit {0}
-HasPairs (Ensure cache) = Unit {0}
-HasPairs (Truncate cache) = Unit {0}
-HasPairs (Destroy cache) = Unit {0}
-HasPairs (Batch cache pairs) = 1 ≤ length pairs
 
 -- 1 to 64 mutations, each of which has a spelling
 pub record AreMutations (mutations : List Mutation) : Type 0 where
@@ -164,18 +152,3 @@ pub record IsGroupText (text : List ℕ) (mutations : List Mutation) : Type 0 wh
 -- after the open gate of a group's record: the length of the payload, the payload, and a closed gate
 abbrev pub tail_text : List Mutation → List ℕ
 tail_text mutations = counted32_text (group_text mutations) ++ bytes8 closed_gate
-
--- how long the puts of these pairs would be, one after the other
-abbrev pub puts_length : List ℕ → List (List ℕ × List ℕ) → ℕ
-puts_length cache [] = 0
-puts_length cache (pair ∷ pairs) = length (mutation_text (Put cache pair.0 pair.1)) + puts_length cache pairs
-
--- By how much at most a mutation makes a store of the contents longer: the head of a record, its count, and the mutation, or
--- the puts of a batch. What only takes away adds nothing.
-abbrev pub growth_of : Mutation → ℕ
-growth_of (Put cache key value) = record_head + 1 + length (mutation_text (Put cache key value))
-growth_of (Remove cache key) = 0
-growth_of (Ensure cache) = record_head + 1 + length (mutation_text (Ensure cache))
-growth_of (Truncate cache) = 0
-growth_of (Destroy cache) = 0
-growth_of (Batch cache pairs) = record_head + 1 + puts_length cache pairs

@@ -1,7 +1,8 @@
 //! A group of mutations, and the bytes that frame it.
 ghost use Rattle.std.specs.Prelude.{◌≡◌, ◌↔◌, ◌⊎◌, ◌≤◌, ◌<◌, [], ◌∷◌, ◌++◌, length, IfOk, OnOk, IfErr, OnErr, IsErrAnd};
+ghost use Rattle.cache_model.specs.PlainList.{HasPairs};
 ghost use Rattle.record_form.specs.declared.group.GroupRefusal.TheVariants.{Full};
-ghost use Rattle.record_form.specs.GroupText.{HasPairs, IsGroup, group_text, most_mutations, most_group_bytes};
+ghost use Rattle.record_form.specs.GroupText.{IsGroup, group_text, most_mutations, most_group_bytes};
 
 use crate::length::length_of;
 use cache_key::Mutation;

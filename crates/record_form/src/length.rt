@@ -2,13 +2,10 @@
 ghost use Rattle.std.specs.Prelude.{◌≡◌, ◌+◌, ◌≤◌, ◌*◌, length};
 ghost use Rattle.std.specs.List.{flat_map};
 ghost use Rattle.cache_key.specs.Names.{IsName, IsKey, IsValue, most_pairs};
-ghost use Rattle.record_form.specs.GroupText.{HasPairs, IsMutation, pair_form, mutation_text, growth_of, record_head, most_group_bytes};
+ghost use Rattle.cache_model.specs.PlainList.{HasPairs};
+ghost use Rattle.record_form.specs.GroupText.{IsMutation, pair_form, mutation_text};
 
-use crate::group::RECORD_HEAD;
 use cache_key::{CacheName, Key, Mutation, Value};
-
-/// The head of a record of its own, and its count.
-const RECORD_FRAME: u64 = RECORD_HEAD as u64 + 1;
 
 /// How many bytes the spelling of a mutation has.
 #[tactic(auto, using(crate::proofs::GroupLengthLemmas::length_put, crate::proofs::GroupLengthLemmas::length_remove, crate::proofs::GroupLengthLemmas::length_name, crate::proofs::GroupLengthLemmas::length_batch, crate::proofs::GroupLengthLemmas::by_recursion))]
@@ -25,28 +22,6 @@ pub(crate) fn length_of(mutation: &Mutation) -> u64
             head_length(cache)
         }
         Mutation::Batch(cache, pairs) => head_length(cache) + 1 + pairs_length(pairs.as_slice()),
-    }
-}
-
-/// By how much at most a mutation makes a store of the contents longer. Takes no memory.
-///
-/// For a put and an ensure it is the record of that mutation alone: its length and 6. For a batch it is the lengths of the
-/// puts of its pairs and 6. What only takes away adds nothing.
-#[tactic(auto, using(crate::proofs::GroupLengthLemmas::length_put, crate::proofs::GroupLengthLemmas::length_name, crate::proofs::GroupLengthLemmas::length_puts))]
-pub fn growth(mutation: &Mutation) -> u64
-    ensures growth { result ≡ growth_of mutation.now }
-    ensures most { result ≤ record_head + most_group_bytes }
-{
-    match mutation {
-        Mutation::Put(cache, key, value) => {
-            RECORD_FRAME + head_length(cache) + pair_length(key, value)
-        }
-        Mutation::Ensure(cache) => RECORD_FRAME + head_length(cache),
-        Mutation::Batch(cache, pairs) => {
-            let heads = head_length(cache) * u64::from(pairs.len());
-            RECORD_FRAME + heads + pairs_length(pairs.as_slice())
-        }
-        Mutation::Remove(_, _) | Mutation::Truncate(_) | Mutation::Destroy(_) => 0,
     }
 }
 

@@ -7,7 +7,7 @@
 //! `group_fault`, specs/GroupFault.antt). That a spelling is of one header or group, and what a first fault is: `laws`.
 //! Hides: that all bytes are judged before memory is taken for the mutations.
 //! Not here: where a header and its groups stand in a file, and which gate is open (store_journal).
-//! Laws: FaultBounds, GroupFaultLemmas, GroupLengthLemmas, HeaderLemmas.
+//! Laws: FaultBounds, GroupFaultLemmas, GroupLengthLemmas, HeaderLemmas, NameLemmas.
 #![tactic(auto)]
 
 mod check_group;
@@ -21,10 +21,10 @@ mod read_group;
 mod read_header;
 mod read_text;
 
+pub use cache_model::growth;
 pub use encode::{encode_header, encode_tail};
 pub use fault::RecordFault;
 pub use group::{CLOSED_GATE, Group, GroupRefusal, MOST_GROUP_BYTES, MOST_MUTATIONS, RECORD_HEAD};
 pub use header::{HEADER_BYTES, Header, PARTITION_OFFSET, PARTITIONS_OFFSET};
-pub use length::growth;
 pub use read_group::decode_group;
 pub use read_header::decode_header;

@@ -19,11 +19,11 @@ use byte_fields::Cursor;
 use cache_key::{CacheName, Key, MOST_PAIRS, Mutation, Pairs, Value};
 use std::alloc::Global;
 
-/// The group that these bytes spell, all of them.
+/// The group that these bytes spell, all of them, however many they are.
 ///
-/// All bytes are judged before memory is taken for the mutations. No text is copied twice.
+/// All bytes are judged before memory is taken for the mutations. No text is copied twice. Of a payload of more than 8,388,608
+/// bytes no more are looked at, and its fault is `Range(8388608)` where there is none before.
 pub fn decode_group(alloc: Global, payload: &[u8]) -> Result<Group, RecordFault>
-    requires { length payload.now ≤ most_group_bytes }
     ensures text { IfOk result (λ group. IsGroupText payload.now group) }
     ensures value { (mutations : List Mutation) → IsGroupText payload.now mutations → (result ≡ Ok mutations) ⊎ (result ≡ Err NoMemory) }
     ensures fault_at { (fault : RecordFault) → fault ≢ NoMemory → (IsErrOf result fault ↔ (group_fault payload.now ≡ Some fault)) }
@@ -32,11 +32,9 @@ pub fn decode_group(alloc: Global, payload: &[u8]) -> Result<Group, RecordFault>
     checked_group(alloc, payload)
 }
 
-#[tactic(auto, using(crate::proofs::GroupFaultLemmas::refused_memory))]
 fn checked_group(alloc: Global, payload: &[u8]) -> Result<Group, RecordFault>
-    requires { length payload.now ≤ most_group_bytes }
     ensures decoded { MatchResult result
-        (λ group. group_at payload.now ≡ Ok group)
+        (λ group. (group_at payload.now ≡ Ok group) × (length payload.now ≤ most_group_bytes))
         (λ fault. (group_fault payload.now ≡ Some fault) ⊎ ((group_fault payload.now ≡ None) × (fault ≡ NoMemory))) }
 {
     check_group(payload)?;

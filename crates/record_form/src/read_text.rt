@@ -4,7 +4,7 @@ ghost use Rattle.byte_fields.specs.Reading.{rest_of};
 ghost use Rattle.cache_key.specs.Names.{IsNameByte, most_value_bytes};
 ghost use Rattle.std.specs.Str.{IsUtf8};
 ghost use Rattle.std.specs.Str.Lossy.{utf8_valid_len};
-ghost use Rattle.record_form.specs.Form.{OutOfRange, BadTag, headed, characters_at, characters};
+ghost use Rattle.record_form.specs.Form.{OutOfRange, BadTag, NameText, Utf8Text, headed, characters_at, characters};
 ghost use Rattle.record_form.specs.Characters.{name_prefix_length, first_bad_in_name, may_continue, completes, first_bad_in_utf8};
 ghost use Rattle.record_form.specs.Reads.{ReadsField, head_at};
 ghost use Rattle.record_form.specs.GroupText.{is_within, name_form, key_form, value_form};
@@ -86,7 +86,7 @@ fn text<'a>(
 ) -> Result<&'a str, RecordFault>
     requires size { size ≤ 4 }
     requires most { most ≤ most_value_bytes }
-    ensures { ReadsField (headed size OutOfRange (is_within least most) length (characters IsUtf8 first_bad_in_utf8 4)).read (λ text. text.now) cursor.old cursor.new result }
+    ensures { ReadsField (headed size OutOfRange (is_within least most) length (characters Utf8Text IsUtf8 first_bad_in_utf8 4)).read (λ text. text.now) cursor.old cursor.new result }
 {
     let count = count(cursor, size, least, most)?;
     utf8_characters(cursor, count)
@@ -94,7 +94,7 @@ fn text<'a>(
 
 /// So many bytes of the alphabet of names.
 fn name_characters<'a>(cursor: &mut Cursor<'a>, count: usize) -> Result<&'a str, RecordFault>
-    ensures { ReadsField (characters (All IsNameByte) first_bad_in_name 1 count).read (λ text. text.now) cursor.old cursor.new result }
+    ensures { ReadsField (characters NameText (All IsNameByte) first_bad_in_name 1 count).read (λ text. text.now) cursor.old cursor.new result }
 {
     let prefix = prefix_of(cursor.rest(), count);
     let good = name_prefix_length(prefix);
@@ -106,7 +106,7 @@ fn name_characters<'a>(cursor: &mut Cursor<'a>, count: usize) -> Result<&'a str,
 
 /// So many bytes of UTF-8. What is there is judged even where there are too few.
 fn utf8_characters<'a>(cursor: &mut Cursor<'a>, count: usize) -> Result<&'a str, RecordFault>
-    ensures { ReadsField (characters IsUtf8 first_bad_in_utf8 4 count).read (λ text. text.now) cursor.old cursor.new result }
+    ensures { ReadsField (characters Utf8Text IsUtf8 first_bad_in_utf8 4 count).read (λ text. text.now) cursor.old cursor.new result }
 {
     let prefix = prefix_of(cursor.rest(), count);
     let valid = valid_length(prefix);
@@ -132,7 +132,7 @@ fn pass_text<'a>(cursor: &mut Cursor<'a>, count: usize) -> Result<&'a str, Recor
 }
 
 /// So many bytes from the beginning, or all there are.
-fn prefix_of(bytes: &[u8], count: usize) -> &[u8]
+pub(crate) fn prefix_of(bytes: &[u8], count: usize) -> &[u8]
     ensures { result.now ≡ take count bytes.now }
 {
     if bytes.len() < count {

@@ -1,5 +1,6 @@
 use Rattle.std.proofs.Common.{subst, sym}
-use Rattle.record_form.specs.GroupText.{IsMutation, HasPairs}
+use Rattle.cache_model.specs.PlainList.{HasPairs}
+use Rattle.record_form.specs.GroupText.{IsMutation}
 use Rattle.record_form.proofs.GroupLengthLemmas.{by_recursion}
 use Rattle.record_form.proofs.length.length_of.Goals as goal
 

@@ -3,7 +3,7 @@ use Rattle.record_form.proofs.GroupFaultLemmas.{decoded_text, decoded_value, dec
 use Rattle.record_form.proofs.read_group.decode_group.Goals as goal
 
 pub returns-clause-text : goal.returns-clause-text
-returns-clause-text c = decoded_text c.args.payload.now c.checked_group.result (λ i. omega (arith, c.type_inv.payload i)) c.requires c.checked_group.ensures.decoded
+returns-clause-text c = decoded_text c.args.payload.now c.checked_group.result (λ i. omega (arith, c.type_inv.payload i)) c.checked_group.ensures.decoded
 
 pub returns-clause-value : goal.returns-clause-value
 returns-clause-value c = decoded_value c.args.payload.now c.checked_group.result c.checked_group.ensures.decoded

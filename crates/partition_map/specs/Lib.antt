@@ -1,0 +1,7 @@
+pub mod After
+pub mod Extents
+pub mod Items
+pub mod Order
+pub mod Place
+pub mod Readiness
+pub mod Written

@@ -1,0 +1,29 @@
+//! The contents of a partition in maps, so that a read costs no more than its work.
+//!
+//! Seen as: the extents in byte order of their caches' names, the names of all caches that there ever were, and how many
+//!   more names need no memory (`Maps`, specs/Extents.antt). An extent is a cache that is there, or one for which places
+//!   were made ready. What callers know of it is that the map agrees with a list of changes (`AgreesWith`,
+//!   specs/After.antt), that it is ready for a change (`IsReadyFor`, specs/Readiness.antt), and which items stand after one
+//!   (`items_after`, specs/Items.antt).
+//! Keeps: `apply` appends to the list; `ready` leaves the contents as they are, also after an error; a store of the
+//!   contents stays shorter than 2^48 bytes. A number, once given to a cache, stays its own.
+//! Hides: that a place is made ready by an entry without a value, and that sums are kept.
+//! Not here: what an answer or the contents are after a list (cache_model); the store file (store_journal).
+//! Laws: none.
+//! Cost: a get, a put, a remove and a size one look-up by name and one by key, O(log n); `live` and the numbers of caches
+//!   O(1); `entries_from` O(log n) and its items; `contents` all of them, and `count_from` those after its item. `apply` takes no memory. Places that were made
+//!   ready and never used stay until their key is put or removed, or their cache truncated or destroyed; `entries_from`
+//!   and `contents` pass over them, and over caches that were destroyed.
+#![tactic(auto)]
+
+mod change;
+mod count;
+mod extent;
+mod item;
+mod list;
+mod map;
+mod places;
+mod read;
+
+pub use item::LastItem;
+pub use map::PartitionMap;

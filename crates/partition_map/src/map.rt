@@ -1,0 +1,210 @@
+//! The contents of a partition.
+ghost use Rattle.std.specs.Prelude.{◌≡◌, ℕ, ◌+◌, ◌<◌, ◌^◌, List, [], ◌∷◌, ◌++◌, false, length, take, IfOk, IsOk, OnOk};
+ghost use Rattle.std.specs.Option.{option_copied};
+ghost use Rattle.cache_model.specs.Caches.{Caches};
+ghost use Rattle.cache_model.specs.Change.{Change, change_of};
+ghost use Rattle.cache_model.specs.Contents.{value_after, AreContentsAfter};
+ghost use Rattle.cache_model.specs.PlainList.{live, growth_of};
+ghost use Rattle.cache_model.specs.Reply.{reply_after};
+ghost use Rattle.partition_map.specs.After.{AgreesWith, IsReadyFor};
+ghost use Rattle.partition_map.specs.Extents.{caches_in, AreKept};
+ghost use Rattle.partition_map.specs.Items.{items_after};
+ghost use Rattle.partition_map.specs.Order.{brings, extent_number};
+
+use crate::change::{change_extent, makes_present, named, number_name, ready_extent, room_for};
+use crate::count::count_after_item;
+use crate::extent::Extent;
+use crate::item::LastItem;
+use crate::list::{add_after, copy_caches};
+use crate::read::{count_of, is_there, value_of};
+use cache_key::{CacheName, Key, Mutation, Reply, Request, Value};
+use cache_model::Contents;
+use indexmap::IndexSet;
+use std::alloc::{AllocError, Global};
+use std::collections::BTreeMap;
+use std::marker::Model;
+
+/// A store of the contents stays below this length.
+const MOST_LIVE: u64 = 1 << 48;
+
+/// The most caches that have a number.
+const MOST_NAMES: usize = 1 << 32;
+
+/// The length of a store without items.
+const LEAST_STORE_LENGTH: u64 = 42;
+
+/// What a record takes beside its mutations.
+const RECORD_OVERHEAD: u64 = 6;
+
+/// The most mutations of a record.
+const MUTATIONS_IN_A_RECORD: u64 = 64;
+
+/// The contents of a partition in maps.
+#[derive(Drop)]
+pub struct PartitionMap {
+    extents: BTreeMap<CacheName, Extent>,
+    names: IndexSet<CacheName>,
+    items: u64,
+    bytes: u64,
+    alloc: Global,
+}
+
+impl Model for PartitionMap {
+    ghost use Rattle.std.specs.Prelude.{◌≤◌, ◌^◌, length};
+    ghost use Rattle.indexmap.specs.IndexSet.{spare};
+    ghost use Rattle.partition_map.specs.Extents.{Maps, AreKept};
+
+    ghost Value = { Maps };
+
+    ghost view = { λ m. record { extents = m.extents.entries; names = m.names.keys; room = spare m.names } };
+
+    ghost invariant = { λ m. AreKept m.extents.entries m.items m.bytes × (length m.names.keys ≤ 2 ^ 32) };
+}
+
+impl PartitionMap {
+    /// A map of no contents. Takes no memory.
+    pub fn empty(alloc: Global) -> Self
+        ensures { AgreesWith [] result }
+    {
+        PartitionMap {
+            extents: BTreeMap::new(alloc),
+            names: IndexSet::new(alloc),
+            items: 0,
+            bytes: 0,
+            alloc,
+        }
+    }
+
+    /// What the request is replied. Takes memory for a copy of the value in the reply.
+    pub fn answer(&self, alloc: Global, request: &Request) -> Result<Reply, AllocError>
+        ensures { IfOk result (λ reply. (changes : List Change) → AgreesWith changes self.now → reply ≡ reply_after changes request.now) }
+    {
+        match request {
+            Request::Get(cache, key) => self.value_reply(cache, key),
+            Request::Put(cache, key, _) => self.value_reply(cache, key),
+            Request::Remove(cache, key) => self.value_reply(cache, key),
+            Request::Size(cache) => Ok(Reply::Count(count_of(self.extents.get(cache)))),
+            Request::Ensure(_) => Ok(Reply::Done),
+            Request::Truncate(_) => Ok(Reply::Done),
+            Request::Destroy(_) => Ok(Reply::Done),
+            Request::PutAll(_, _) => Ok(Reply::Done),
+        }
+    }
+
+    /// The contents in one order. Takes memory for a copy of every name, key and value.
+    pub fn contents(&self, alloc: Global) -> Result<Contents, AllocError>
+        ensures { IfOk result (λ contents. (changes : List Change) → AgreesWith changes self.now → AreContentsAfter changes contents) }
+    {
+        Ok(Contents::of(copy_caches(alloc, &self.extents)?))
+    }
+
+    /// The next items of the plain list after an item, or from its begin; at most so many.
+    ///
+    /// Takes memory for a copy of every name, key and value in them.
+    pub fn entries_from(
+        &self,
+        alloc: Global,
+        after: Option<&LastItem>,
+        most: u8,
+    ) -> Result<Vec<Mutation>, AllocError>
+        ensures { IfOk result (λ items. (changes : List Change) (caches : Caches) → AgreesWith changes self.now → AreContentsAfter changes caches → items.items ≡ take most (items_after (option_copied after.entry) caches)) }
+    {
+        let mut items = Vec::new(alloc);
+        add_after(&mut items, &self.extents, after, most as usize)?;
+        Ok(items)
+    }
+
+    /// How many items of the plain list stand after an item, or how many it has. Takes no memory.
+    pub fn count_from(&self, after: Option<&LastItem>) -> u64
+        ensures { (changes : List Change) (caches : Caches) → AgreesWith changes self.now → AreContentsAfter changes caches → result ≡ length (items_after (option_copied after.entry) caches) }
+    {
+        match after {
+            Some(item) => count_after_item(&self.extents, item),
+            None => self.items,
+        }
+    }
+
+    /// The length of a store that holds the contents and nothing else, in bytes.
+    pub fn live(&self) -> u64
+        ensures live { (changes : List Change) (caches : Caches) → AgreesWith changes self.now → AreContentsAfter changes caches → result ≡ live caches }
+        ensures most { result < 2 ^ 48 }
+    {
+        self.build_length()
+    }
+
+    /// Of a cache that is there, how many others were made present for the first time before it.
+    pub fn extent(&self, cache: &CacheName) -> Option<u32>
+        ensures { (changes : List Change) → AgreesWith changes self.now → result ≡ extent_number changes cache.now }
+    {
+        if !is_there(self.extents.get(cache)) {
+            return None;
+        }
+        match self.names.get_index_of(cache) {
+            Some(number) => Some(number as u32),
+            None => None,
+        }
+    }
+
+    /// Makes ready for the mutation, so that `apply` takes no memory. The contents stay, also after an error.
+    pub fn ready(&mut self, mutation: &Mutation) -> Result<(), AllocError>
+        ensures ready { OnOk result (IsReadyFor (change_of mutation.now) self.new) }
+        ensures contents { (changes : List Change) → AgreesWith changes self.old → AgreesWith changes self.new }
+        ensures fits { OnOk result ((changes : List Change) (caches : Caches) → AgreesWith changes self.old → AreContentsAfter changes caches → live caches + growth_of mutation.now < 2 ^ 48) }
+        ensures no_memory_needed { brings (change_of mutation.now) ≡ false → IsOk result }
+    {
+        let live = self.build_length();
+        if !makes_present(mutation) {
+            return Ok(());
+        }
+        if room_for(mutation) >= MOST_LIVE - live || self.names.len() >= MOST_NAMES {
+            return Err(AllocError);
+        }
+        self.names.reserve(1)?;
+        ready_extent(self.alloc, &mut self.extents, mutation)
+    }
+
+    /// Makes the change of a mutation for which the map is ready. Takes no memory.
+    pub fn apply(&mut self, mutation: Mutation)
+        requires ready { IsReadyFor (change_of mutation) self.old }
+        ensures { (changes : List Change) → AgreesWith changes self.old → AgreesWith (changes ++ change_of mutation ∷ []) self.new }
+    {
+        let is_present_then = makes_present(&mutation);
+        match change_extent(&mut self.extents, mutation) {
+            Some(shift) => {
+                self.items = self.items - shift.gone_items + shift.come_items;
+                self.bytes = self.bytes - shift.gone_bytes + shift.come_bytes;
+                number_name(&mut self.names, shift.cache, is_present_then);
+            }
+            None => (),
+        }
+    }
+
+    /// Makes the change of the mutation. After an error the contents stay.
+    pub fn change(&mut self, mutation: Mutation) -> Result<(), AllocError>
+        ensures changed { OnOk result ((changes : List Change) → AgreesWith changes self.old → AgreesWith (changes ++ change_of mutation ∷ []) self.new) }
+        ensures refused { (error : AllocError) → result ≡ Err error → (changes : List Change) → AgreesWith changes self.old → AgreesWith changes self.new }
+    {
+        self.ready(&mutation)?;
+        self.apply(mutation);
+        Ok(())
+    }
+
+    // The length of a store of what the extents show.
+    fn build_length(&self) -> u64
+        ensures kept { result ≡ live (caches_in self.now.extents) }
+        ensures most { result < 2 ^ 48 }
+    {
+        let records = self.items.div_ceil(MUTATIONS_IN_A_RECORD);
+        LEAST_STORE_LENGTH + self.bytes + RECORD_OVERHEAD * records
+    }
+
+    // The reply that has a copy of the value at the key.
+    fn value_reply(&self, cache: &CacheName, key: &Key) -> Result<Reply, AllocError>
+        ensures { IfOk result (λ reply. (changes : List Change) → AgreesWith changes self.now → reply ≡ Reply.Value (value_after changes cache.now key.now)) }
+    {
+        match value_of(self.extents.get(cache), key) {
+            Some(value) => Ok(Reply::Value(Some(value.copy()?))),
+            None => Ok(Reply::Value(None)),
+        }
+    }
+}

@@ -9,6 +9,7 @@ use Rattle.disk_trait.specs.View.{Image, View, Tells}
 use Rattle.disk_trait.specs.Calls.{Fewer, Same}
 use Rattle.disk_trait.specs.Moments.{Now, Throughout, Onward, Later}
 use Rattle.disk_trait.proofs.Runs.{holds_now, later_joined, later_onward}
+use Rattle.partition_map.specs.After.{AgreesWith}
 use Rattle.seal_gate.specs.Seal.{IsSealed, IsSettled}
 use Rattle.store_ident.specs.declared.ident.StoreId.{StoreId}
 use Rattle.store_journal.specs.declared.store.Store.{Store}
@@ -18,15 +19,15 @@ use Rattle.newest_store.specs.declared.fault.NewestFault.{NewestFault}
 use Rattle.newest_store.specs.declared.fault.NewestFault.TheVariants as newest
 use Rattle.newest_store.proofs.NewestLemmas.{has_store_in}
 use Rattle.script_lines.specs.declared.command.Command.{Command}
-use Rattle.script_lines.specs.declared.command.Command.TheVariants.{Create, Recover, Stop, Steps}
+use Rattle.script_lines.specs.declared.command.Command.TheVariants.{Create, Recover, Stop, Dump, Steps}
 use Rattle.script_lines.specs.declared.command.Event.{Event}
 use Rattle.script_lines.specs.declared.answer.Answer.{Answer}
 use Rattle.script_lines.specs.declared.answer.Answer.TheVariants as answered
 use Rattle.script_lines.specs.declared.answer.Refusal.{Refusal}
 use Rattle.script_lines.specs.declared.answer.Refusal.TheVariants as refusals
-use Rattle.cluster_commands.specs.State.{OpenCluster, KnownFiles, unknown, no_store, store_in, Stage, closed, opened, failing, files_at, State, begun, RestartCount, Counts, made_at, first_store, IsStepped, OpenStep, ClosedStep, StageStep, IsAsKnown, MayLack, restarts_at}
+use Rattle.cluster_commands.specs.State.{OpenCluster, KnownFiles, unknown, no_store, store_in, Stage, closed, opened, failing, files_at, State, begun, RestartCount, Counts, made_at, first_store, IsDump, IsStepped, OpenStep, ClosedStep, StageStep, IsAsKnown, MayLack, restarts_at}
 use Rattle.cluster_commands.specs.Breaks.{EventsBreak, CommandBreaks, not_done, half_made, half_stepped, IsCarriedOut, IsBrokenOff}
-use Rattle.cluster_commands.specs.OnDisk.{cluster_of, stage_with, stage_of, state_of, IsStage, IsOnDisk, IsReady, FilesHold, IsInState}
+use Rattle.cluster_commands.specs.OnDisk.{cluster_of, stage_with, stage_of, state_of, HasChanges, IsStage, StateSteps, IsReady, FilesHold, IsInState}
 use Rattle.cluster_commands.specs.Refusals.{refusal_for}
 use Rattle.cluster_commands.specs.declared.cluster.Cluster.{Cluster}
 use Rattle.cluster_commands.specs.declared.cluster.Cluster.TheVariants.{Closed, Open}
@@ -37,10 +38,10 @@ use Rattle.cluster_commands.proofs.StoredLemmas.{stored, at_open, kept_sound}
 -- ---- while no cluster is open
 
 -- what is known of the files
-abbrev pub known_then : (stage : Stage) → IsStage Closed stage → (files : KnownFiles) × (stage ≡ closed files)
-known_then (closed files) is = (files, refl)
-known_then (opened cluster) is = absurd is
-known_then (failing cluster flight) is = absurd is
+abbrev pub known_then : (v : View) (stage : Stage) → IsStage Closed v stage → (files : KnownFiles) × (stage ≡ closed files)
+known_then v (closed files) is = (files, refl)
+known_then v (opened cluster) is = absurd is
+known_then v (failing cluster flight) is = absurd is
 
 -- with no cluster, on a disk of which this is known
 at_closed : (v : View) (files : KnownFiles) (tells : Bool) → (IsTrue tells → Tells v) → FilesHold files v → IsInState Closed v (begun tells files v.faults v.restarts)
@@ -68,10 +69,10 @@ module _ (hosts : List (List ℕ)) (v w : View) (state : State) (at : IsInState 
   tells_on = λ is. on.tells (at.tells is)
 
   abbrev known : KnownFiles
-  known = (known_then state.stage at.stage).0
+  known = (known_then v state.stage at.stage).0
 
   closed_with : state.stage ≡ closed known
-  closed_with = (known_then state.stage at.stage).1
+  closed_with = (known_then v state.stage at.stage).1
 
   were_known : FilesHold known v
   were_known = subst (λ (s : Stage). FilesHold (files_at s) v) closed_with at.files
@@ -89,14 +90,14 @@ module _ (hosts : List (List ℕ)) (v w : View) (state : State) (at : IsInState 
   }
 
   -- the command opens a cluster
-  carried_open : (command : Command) (answer : Answer) (cluster : Opened) → RestartCount (restarts_at answer) v.restarts w.restarts → IsOnDisk cluster w
-      → ClosedStep hosts state known command answer (state_of cluster w state.tells) → IsCarriedOut hosts state command answer (Open cluster) w
-  carried_open command answer cluster count on_disk step = record {
-    new = state_of cluster w state.tells;
-    at = at_open cluster w state.tells on_disk tells_on;
+  carried_open : (command : Command) (answer : Answer) (cluster : Opened) (changes : List Change) → RestartCount (restarts_at answer) v.restarts w.restarts → HasChanges cluster w changes
+      → ClosedStep hosts state known command answer (state_of cluster changes w state.tells) → IsCarriedOut hosts state command answer (Open cluster) w
+  carried_open command answer cluster changes count on_disk step = record {
+    new = state_of cluster changes w state.tells;
+    at = at_open cluster w changes state.tells on_disk tells_on;
     step = (
-      counts Closed v w state at (restarts_at answer) (stage_of cluster) on.faults count,
-      subst (λ (s : Stage). StageStep hosts s state command answer (state_of cluster w state.tells)) (sym closed_with) step,
+      counts Closed v w state at (restarts_at answer) (stage_of cluster changes) on.faults count,
+      subst (λ (s : Stage). StageStep hosts s state command answer (state_of cluster changes w state.tells)) (sym closed_with) step,
     );
   }
 
@@ -123,10 +124,10 @@ module _ (hosts : List (List ℕ)) (v w : View) (state : State) (at : IsInState 
   pub half_create : (host : List ℕ) → Onward v w → Contains hosts host → IsBrokenOff hosts state (Create host) w
   half_create host same has = broken (Create host) unknown tt (half_made host known refl has closed_with (counts Closed v w state at false (closed unknown) on.faults (same_count v w same)) refl)
 
-  pub made_create : (host : List ℕ) (answer : Answer) (cluster : Opened) → Onward v w → Contains hosts host → answer ≡ answered.Created host → stage_of cluster ≡ opened (made_at host) → IsOnDisk cluster w
+  pub made_create : (host : List ℕ) (answer : Answer) (cluster : Opened) → Onward v w → Contains hosts host → answer ≡ answered.Created host → stage_of cluster [] ≡ opened (made_at host) → HasChanges cluster w []
       → IsCarriedOut hosts state (Create host) answer (Open cluster) w
   made_create host answer cluster same has is stage on_disk =
-      carried_open (Create host) answer cluster (subst (λ (a : Answer). RestartCount (restarts_at a) v.restarts w.restarts) (sym is) (same_count v w same)) on_disk (inl (has, is, stage))
+      carried_open (Create host) answer cluster [] (subst (λ (a : Answer). RestartCount (restarts_at a) v.restarts w.restarts) (sym is) (same_count v w same)) on_disk (inl (has, is, stage))
 
   pub not_member_recover : (host : List ℕ) (answer : Answer) → Fewer v w → IsOneMore v.restarts w.restarts → ¬ Contains hosts host → answer ≡ answered.Refused (refusals.NotMember host)
       → IsCarriedOut hosts state (Recover host) answer Closed w
@@ -249,19 +250,19 @@ module _ (hosts : List (List ℕ)) (v m w : View) (state : State) (at : IsInStat
     refused_recover newest.NoMemory refusal count why is is_risen whole damaged = absurd cc
 
 -- a store was found, and is opened
-pub opened_recover : (hosts : List (List ℕ)) (v w : View) (state : State) → IsInState Closed v state → IsSettled v 0 → IsSettled v 1 → Onward v w → (host : List ℕ) (answer : Answer) (cluster : Opened)
+pub opened_recover : (hosts : List (List ℕ)) (v w : View) (state : State) → IsInState Closed v state → IsSettled v 0 → IsSettled v 1 → Onward v w → (host : List ℕ) (answer : Answer) (cluster : Opened) (changes : List Change)
     → Contains hosts host → answer ≡ answered.Recovered 1 host 1 → cluster.host ≡ host → cluster.flight ≡ None → (Tells v → IsNewest v.seen cluster.store.file)
-    → Finds v cluster.store.file cluster.store.id (changes_of cluster.mutations.items) → IsOnDisk cluster w → IsCarriedOut hosts state (Recover host) answer (Open cluster) w
-opened_recover hosts v w state at first second same host answer cluster has is named sound newest finds on_disk =
+    → Finds v cluster.store.file cluster.store.id changes → HasChanges cluster w changes → IsCarriedOut hosts state (Recover host) answer (Open cluster) w
+opened_recover hosts v w state at first second same host answer cluster changes has is named sound newest finds on_disk =
     let on = later_onward v w same in
-    let stage : stage_of cluster ≡ opened (cluster_of cluster) = ap (λ (f : Option Mutation). stage_with (cluster_of cluster) f) sound in
-    carried_open hosts v w state at on (Recover host) answer cluster (subst (λ (a : Answer). RestartCount (restarts_at a) v.restarts w.restarts) (sym is) (same_count v w same)) on_disk
+    let stage : stage_of cluster changes ≡ opened (cluster_of cluster changes) = ap (λ (f : Option Mutation). stage_with (cluster_of cluster changes) f) sound in
+    carried_open hosts v w state at on (Recover host) answer cluster changes (subst (λ (a : Answer). RestartCount (restarts_at a) v.restarts w.restarts) (sym is) (same_count v w same)) on_disk
     (inl (
       has,
       is,
-      cluster_of cluster,
+      cluster_of cluster changes,
       named,
-      (λ tells. found (known hosts v w state at on) v (cluster_of cluster) first second (at.tells tells) (newest (at.tells tells)) finds (were_known hosts v w state at on)),
+      (λ tells. found (known hosts v w state at on) v (cluster_of cluster changes) first second (at.tells tells) (newest (at.tells tells)) finds (were_known hosts v w state at on)),
       stage,
     ))
 
@@ -288,27 +289,28 @@ pub rose_later : (a b c : View) → Rose a.faults b.faults → Later b c → Ros
 rose_later a b c rose second = λ below. let more = second.faults in let before = rose (omega (arith, more, below)) in omega (arith, more, before)
 
 -- a cluster that was just made
-pub made_stage : (cluster : Opened) (host : List ℕ) → cluster.host ≡ host → cluster.store.file ≡ 0 → cluster.store.id ≡ first_store → cluster.mutations.items ≡ [] → cluster.flight ≡ None
-    → stage_of cluster ≡ opened (made_at host)
-made_stage cluster host named file id empty sound =
-    ap (λ (f : Option Mutation). stage_with (cluster_of cluster) f) sound
-    ∙ ap (λ (h : List ℕ). opened (record { host = h; file = cluster.store.file; id = cluster.store.id; changes = changes_of cluster.mutations.items })) named
-    ∙ ap (λ (f : ℕ). opened (record { host = host; file = f; id = cluster.store.id; changes = changes_of cluster.mutations.items })) file
-    ∙ ap (λ (i : StoreId). opened (record { host = host; file = 0; id = i; changes = changes_of cluster.mutations.items })) id
-    ∙ ap (λ (ms : List Mutation). opened (record { host = host; file = 0; id = first_store; changes = changes_of ms })) empty
+pub made_stage : (cluster : Opened) (host : List ℕ) → cluster.host ≡ host → cluster.store.file ≡ 0 → cluster.store.id ≡ first_store → cluster.flight ≡ None
+    → stage_of cluster [] ≡ opened (made_at host)
+made_stage cluster host named file id sound =
+    ap (λ (f : Option Mutation). stage_with (cluster_of cluster []) f) sound
+    ∙ ap (λ (h : List ℕ). opened (record { host = h; file = cluster.store.file; id = cluster.store.id; changes = [] })) named
+    ∙ ap (λ (f : ℕ). opened (record { host = host; file = f; id = cluster.store.id; changes = [] })) file
+    ∙ ap (λ (i : StoreId). opened (record { host = host; file = 0; id = i; changes = [] })) id
 
 -- a cluster of what was loaded
-pub opened_on_disk : (cluster : Opened) (store : Store) (mutations : List Mutation) (v : View) → cluster.store ≡ store → cluster.mutations.items ≡ mutations → cluster.flight ≡ None
-    → IsOpened v 0 1 store mutations → IsOnDisk cluster v
-opened_on_disk cluster store mutations v same items sound is =
-    kept_sound cluster.store cluster.mutations.items cluster.flight v sound
-    (subst (λ (s : Store). IsOpened v 0 1 s cluster.mutations.items) (sym same) (subst (λ (ms : List Mutation). IsOpened v 0 1 store ms) (sym items) is))
+pub opened_on_disk : (cluster : Opened) (store : Store) (mutations : List Mutation) (v : View) → cluster.store ≡ store → AgreesWith (changes_of mutations) cluster.contents → cluster.flight ≡ None
+    → IsOpened v 0 1 store mutations → HasChanges cluster v (changes_of mutations)
+opened_on_disk cluster store mutations v same agrees sound is = record {
+  mutations = mutations;
+  are = refl;
+  stored = kept_sound cluster.store mutations cluster.flight v sound (subst (λ (s : Store). IsOpened v 0 1 s mutations) (sym same) is);
+  agrees = agrees;
+}
 
-pub finds_as : (v : View) (cluster : Opened) (store : Store) (mutations : List Mutation) → cluster.store ≡ store → cluster.mutations.items ≡ mutations
-    → Finds v store.file store.id (changes_of mutations) → Finds v cluster.store.file cluster.store.id (changes_of cluster.mutations.items)
-finds_as v cluster store mutations same items finds = λ file id changes now tells.
+pub finds_as : (v : View) (cluster : Opened) (store : Store) (has : List Change) → cluster.store ≡ store → Finds v store.file store.id has → Finds v cluster.store.file cluster.store.id has
+finds_as v cluster store has same finds = λ file id changes now tells.
     let is = finds file id changes now tells in
-    (ap (λ (s : Store). s.file) same ∙ is.0, ap (λ (s : Store). s.id) same ∙ is.1, ap changes_of items ∙ is.2)
+    (ap (λ (s : Store). s.file) same ∙ is.0, ap (λ (s : Store). s.id) same ∙ is.1, is.2)
 
 pub newest_as : (v : View) (cluster : Opened) (store : Store) → cluster.store ≡ store → (Tells v → IsNewest v.seen store.file) → Tells v → IsNewest v.seen cluster.store.file
 newest_as v cluster store same is = λ tells. subst (λ (s : Store). IsNewest v.seen s.file) (sym same) (is tells)
@@ -330,8 +332,8 @@ state_is state stage faults restarts same_stage same_faults same_restarts =
     ∙ ap (λ (n : ℕ). record { stage = stage; faults = faults; restarts = n; tells = state.tells }) same_restarts
 
 module _ (hosts : List (List ℕ)) (cluster : Opened) (v w : View) (state : State) (at : IsInState (Open cluster) v state) where
-  here : state ≡ state_of cluster v state.tells
-  here = state_is state (stage_of cluster) v.faults v.restarts at.stage at.faults at.restarts
+  here : state ≡ state_of cluster at.stage.0 v state.tells
+  here = state_is state (stage_of cluster at.stage.0) v.faults v.restarts at.stage.2 at.faults at.restarts
 
   pub stopped : (answer : Answer) → Later v w → IsOneMore v.restarts w.restarts → Fewer v w → answer ≡ answered.Stopped → IsCarriedOut hosts state Stop answer Closed w
   stopped answer on count fewer is = record {
@@ -339,28 +341,44 @@ module _ (hosts : List (List ℕ)) (cluster : Opened) (v w : View) (state : Stat
     at = at_closed w (files_at state.stage) state.tells (λ does. on.tells (at.tells does)) (files_fewer (files_at state.stage) v w fewer at.files);
     step = (
       counts (Open cluster) v w state at (restarts_at answer) (closed (files_at state.stage)) on.faults (subst (λ (a : Answer). RestartCount (restarts_at a) v.restarts w.restarts) (sym is) count),
-      open_stage hosts (cluster_of cluster) cluster.flight state.stage state Stop answer _ at.stage (is, refl),
+      open_stage hosts (cluster_of cluster at.stage.0) cluster.flight state.stage state Stop answer _ at.stage.2 (is, refl),
     );
   }
 
-  pub stepped : (events : List Event) (answer : Answer) (new : Opened) → Onward v w → IsOnDisk new w → IsStepped (state_of cluster v state.tells) events answer (state_of new w state.tells)
-      → IsCarriedOut hosts state (Steps events) answer (Open new) w
-  stepped events answer new on on_disk step = record {
-    new = state_of new w state.tells;
-    at = at_open new w state.tells on_disk (λ does. on.tells (at.tells does));
+  pub dumped : (answer : Answer) → v ≡ w → ((changes : List Change) → AgreesWith changes cluster.contents → IsDump (cluster_of cluster changes) answer) → IsCarriedOut hosts state Dump answer (Open cluster) w
+  dumped answer same shows = let is = shows at.stage.0 at.stage.1.agrees in record {
+    new = state;
+    at = subst (λ (u : View). IsInState (Open cluster) u state) same at;
     step = (
-      counts (Open cluster) v w state at (restarts_at answer) (stage_of new) on.faults (subst (λ (a : Answer). RestartCount (restarts_at a) v.restarts w.restarts) (sym step.2) (same_count v w on)),
-      open_stage hosts (cluster_of cluster) cluster.flight state.stage state (Steps events) answer _ at.stage
-          (subst (λ (s : State). IsStepped s events answer (state_of new w state.tells)) (sym here) step),
+      record { faults = omega arith; restarts = subst (λ (a : Answer). RestartCount (restarts_at a) state.restarts state.restarts) (sym is.2) refl; tells = refl },
+      open_stage hosts (cluster_of cluster at.stage.0) cluster.flight state.stage state Dump answer state at.stage.2 (is, refl),
     );
   }
 
-  pub broken_steps : (events : List Event) (new : Opened) → IsOnDisk new w → EventsBreak (state_of cluster v state.tells) events (state_of new w state.tells) → IsBrokenOff hosts state (Steps events) w
-  broken_steps events new on_disk breaks = record {
-    new = state_of new w state.tells;
-    at_end = record { faults = omega arith; restarts = refl; files = stored new w on_disk };
-    breaks = half_stepped events refl (subst (λ (s : State). EventsBreak s events (state_of new w state.tells)) (sym here) breaks);
+  stepped_to : (events : List Event) (answer : Answer) (new : Opened) (after : List Change) → Onward v w → HasChanges new w after → IsStepped (state_of cluster at.stage.0 v state.tells) events answer (state_of new after w state.tells)
+      → IsCarriedOut hosts state (Steps events) answer (Open new) w
+  stepped_to events answer new after on has step = record {
+    new = state_of new after w state.tells;
+    at = at_open new w after state.tells has (λ does. on.tells (at.tells does));
+    step = (
+      counts (Open cluster) v w state at (restarts_at answer) (stage_of new after) on.faults (subst (λ (a : Answer). RestartCount (restarts_at a) v.restarts w.restarts) (sym step.2) (same_count v w on)),
+      open_stage hosts (cluster_of cluster at.stage.0) cluster.flight state.stage state (Steps events) answer _ at.stage.2
+          (subst (λ (s : State). IsStepped s events answer (state_of new after w state.tells)) (sym here) step),
+    );
   }
+
+  pub stepped : (events : List Event) (answer : Answer) (new : Opened) → Onward v w → StateSteps cluster v new w (λ before after. IsStepped before events answer after) → IsCarriedOut hosts state (Steps events) answer (Open new) w
+  stepped events answer new on is = let s = is.steps state.tells at.stage.0 at.stage.1 in stepped_to events answer new s.0 on s.1 s.2
+
+  broken_at : (events : List Event) (new : Opened) (after : List Change) → HasChanges new w after → EventsBreak (state_of cluster at.stage.0 v state.tells) events (state_of new after w state.tells) → IsBrokenOff hosts state (Steps events) w
+  broken_at events new after has breaks = record {
+    new = state_of new after w state.tells;
+    at_end = record { faults = omega arith; restarts = refl; files = stored new w after has };
+    breaks = half_stepped events refl (subst (λ (s : State). EventsBreak s events (state_of new after w state.tells)) (sym here) breaks);
+  }
+
+  pub broken_steps : (events : List Event) (new : Opened) → StateSteps cluster v new w (λ before after. EventsBreak before events after) → IsBrokenOff hosts state (Steps events) w
+  broken_steps events new is = let s = is.steps state.tells at.stage.0 at.stage.1 in broken_at events new s.0 s.1 s.2
 
 -- so it is, whichever command it was said of
 pub carried_as : (hosts : List (List ℕ)) (state : State) (command other : Command) (answer : Answer) (cluster : Cluster) (w : View) → command ≡ other → IsCarriedOut hosts state other answer cluster w

@@ -1,5 +1,5 @@
 -- What a cluster keeps on its disk.
-use Rattle.std.proofs.Common.{◌≡◌, ◌≢◌, inl, inr, ⊎_elim, ℕ, ◌≤◌, zero, suc, All, arith, List, [], ◌∷◌, ◌++◌, refl, sym, ◌∙◌, ap, subst, Option, Some, None, Result, Ok, Err, IfOk, Bool, true}
+use Rattle.std.proofs.Common.{IsErrOf, OnOk, ◌⊎◌, ◌≡◌, ◌≢◌, inl, inr, ⊎_elim, ℕ, ◌≤◌, zero, suc, All, arith, List, [], ◌∷◌, ◌++◌, refl, sym, ◌∙◌, ap, subst, Option, Some, None, Result, Ok, Err, IfOk, Bool, true}
 use Rattle.std.specs.Prelude.{IsTrue}
 use Rattle.std.specs.List.{flat_map}
 use Rattle.std.proofs.lemmas.Grind.{flat_map-append}
@@ -7,6 +7,7 @@ use Rattle.disk_trait.specs.View.{Image, View, Tells}
 use Rattle.disk_trait.specs.Calls.{Moved}
 use Rattle.disk_trait.specs.Moments.{After, Throughout}
 use Rattle.disk_trait.specs.declared.DiskRefusal.{DiskRefusal}
+use Rattle.disk_trait.specs.declared.DiskRefusal.TheVariants as refusals
 use mathlib.Core.Logic.{dite}
 use native.Mathlib.Decide.{ℕ_discrete}
 use Rattle.disk_trait.proofs.Runs.{holds_now, elsewhere}
@@ -14,6 +15,7 @@ use Rattle.cache_key.specs.declared.request.Mutation.{Mutation}
 use Rattle.cache_model.specs.Change.{Change, changes_of, change_of}
 use Rattle.cache_model.specs.Contents.{SameContents}
 use Rattle.record_form.specs.declared.header.Header.{Header}
+use Rattle.partition_map.specs.After.{Maps, AgreesWith}
 use Rattle.seal_gate.specs.Seal.{Each}
 use Rattle.store_ident.specs.declared.ident.StoreId.{StoreId}
 use Rattle.store_journal.specs.Text.{IsText}
@@ -23,8 +25,8 @@ use Rattle.store_journal.specs.Stands.{version_in, IsOlder}
 use Rattle.store_journal.specs.declared.store.Store.{Store}
 use Rattle.newest_store.specs.Newest.{IsHeaded, HasStore, IsOpened}
 use Rattle.newest_store.proofs.NewestLemmas.{identified_is_headed}
-use Rattle.cluster_commands.specs.State.{store_in, files_at}
-use Rattle.cluster_commands.specs.OnDisk.{stage_with, stage_of, state_of, HasInFlight, HasMutations, IsOnDisk, FilesHold, IsInState}
+use Rattle.cluster_commands.specs.State.{Stage, opened, failing, changed, store_in, files_at}
+use Rattle.cluster_commands.specs.OnDisk.{cluster_of, stage_with, stage_of, state_of, HasInFlight, HasMutations, HasChanges, IsStage, IsOnDisk, FilesHold, IsInState}
 use Rattle.cluster_commands.specs.declared.cluster.Cluster.TheVariants.{Open}
 use Rattle.cluster_commands.specs.declared.cluster.Opened.{Opened}
 
@@ -133,12 +135,12 @@ stored_with : (host : List ℕ) (store : Store) (mutations : List Mutation) (fli
 stored_with host store mutations None v kept = stored_opened store mutations v kept
 stored_with host store mutations (Some mutation) v kept = stored_flying store mutations mutation v kept
 
-pub stored : (cluster : Opened) (v : View) → IsOnDisk cluster v → FilesHold (files_at (stage_of cluster)) v
-stored cluster v kept = stored_with cluster.host cluster.store cluster.mutations.items cluster.flight v kept
+pub stored : (cluster : Opened) (v : View) (changes : List Change) → HasChanges cluster v changes → FilesHold (files_at (stage_of cluster changes)) v
+stored cluster v changes has = subst (λ (cs : List Change). FilesHold (files_at (stage_of cluster cs)) v) has.are (stored_with cluster.host cluster.store has.mutations cluster.flight v has.stored)
 
 -- the code and the disk of an open cluster are at its stage
-pub at_open : (cluster : Opened) (v : View) (tells : Bool) → IsOnDisk cluster v → (IsTrue tells → Tells v) → IsInState (Open cluster) v (state_of cluster v tells)
-at_open cluster v tells kept does = record { faults = refl; restarts = refl; tells = does; stage = refl; files = stored cluster v kept }
+pub at_open : (cluster : Opened) (v : View) (changes : List Change) (tells : Bool) → HasChanges cluster v changes → (IsTrue tells → Tells v) → IsInState (Open cluster) v (state_of cluster changes v tells)
+at_open cluster v changes tells has does = record { faults = refl; restarts = refl; tells = does; stage = (changes, has, refl); files = stored cluster v changes has }
 
 -- ---- commit and creation
 
@@ -152,12 +154,12 @@ pub sound_opened : (store : Store) (mutations : List Mutation) (flight : Option 
 sound_opened store mutations flight v sound kept = subst (λ (f : Option Mutation). HasMutations store mutations f v) sound kept
 
 -- a group was appended, and its mutation entered
-pub entered : (store new : Store) (mutations items : List Mutation) (mutation : Mutation) (v w : View) (is : IsOpened v 0 1 store mutations)
-    → items ≡ mutations ++ mutation ∷ [] → AtRest w new (header_for store.id) (is.groups ++ (mutation ∷ []) ∷ []) → new.file ≡ store.file → new.id ≡ store.id
-    → (step : List ℕ → List ℕ → Type 0) → Throughout v w (After v (Moved store.file step)) → IsOpened w 0 1 new items
-entered store new mutations items mutation v w is more rests file id step moments = record {
+pub entered : (store new : Store) (mutations : List Mutation) (mutation : Mutation) (v w : View) (is : IsOpened v 0 1 store mutations)
+    → AtRest w new (header_for store.id) (is.groups ++ (mutation ∷ []) ∷ []) → new.file ≡ store.file → new.id ≡ store.id
+    → (step : List ℕ → List ℕ → Type 0) → Throughout v w (After v (Moved store.file step)) → IsOpened w 0 1 new (mutations ++ mutation ∷ [])
+entered store new mutations mutation v w is rests file id step moments = record {
   groups = is.groups ++ (mutation ∷ []) ∷ [];
-  joined = more ∙ ap (λ (ms : List Mutation). ms ++ mutation ∷ []) is.joined ∙ sym (more_groups is.groups mutation);
+  joined = ap (λ (ms : List Mutation). ms ++ mutation ∷ []) is.joined ∙ sym (more_groups is.groups mutation);
   at_rest = subst (λ (i : StoreId). AtRest w new (header_for i) (is.groups ++ (mutation ∷ []) ∷ [])) (sym id) rests;
   of_partition = ap (λ (i : StoreId). i.partition) id ∙ is.of_partition;
   one_of_two = subst (λ (f : ℕ). f ≤ 1) (sym file) is.one_of_two;
@@ -165,20 +167,16 @@ entered store new mutations items mutation v w is more rests file id step moment
 }
 
 -- a group was not appended, and may have been
-pub flies : (store new : Store) (mutations items : List Mutation) (mutation : Mutation) (v w : View) (is : IsOpened v 0 1 store mutations)
-    → items ≡ mutations → new ≡ store
-    → Throughout v w (After v (Moved store.file (λ old after. OldOrNew (header_for store.id) is.groups (mutation ∷ []) after))) → HasInFlight w new items mutation
-flies store new mutations items mutation v w is same still moments =
-    subst (λ (s : Store). HasInFlight w s items mutation) (sym still)
-    (subst (λ (ms : List Mutation). HasInFlight w store ms mutation) (sym same)
-    (record {
-      groups = is.groups;
-      joined = is.joined;
-      each = λ m image. (holds_now v w _ moments m image).2.here;
-      of_partition = is.of_partition;
-      one_of_two = is.one_of_two;
-      alone = still_alone store v w _ moments is.alone;
-    }))
+pub flies : (store new : Store) (mutations : List Mutation) (mutation : Mutation) (v w : View) (is : IsOpened v 0 1 store mutations) → new ≡ store
+    → Throughout v w (After v (Moved store.file (λ old after. OldOrNew (header_for store.id) is.groups (mutation ∷ []) after))) → HasInFlight w new mutations mutation
+flies store new mutations mutation v w is still moments = subst (λ (s : Store). HasInFlight w s mutations mutation) (sym still) (record {
+  groups = is.groups;
+  joined = is.joined;
+  each = λ m image. (holds_now v w _ moments m image).2.here;
+  of_partition = is.of_partition;
+  one_of_two = is.one_of_two;
+  alone = still_alone store v w _ moments is.alone;
+})
 
 pub has_in_flight : (store : Store) (mutations : List Mutation) (flight : Option Mutation) (mutation : Mutation) (v : View) → flight ≡ Some mutation → HasInFlight v store mutations mutation → HasMutations store mutations flight v
 has_in_flight store mutations flight mutation v same is = subst (λ (f : Option Mutation). HasMutations store mutations f v) (sym same) is
@@ -201,5 +199,75 @@ made (Err refusal) v w id of_first rests named unsealed step moments = tt
 pub kept_sound : (store : Store) (mutations : List Mutation) (flight : Option Mutation) (v : View) → flight ≡ None → IsOpened v 0 1 store mutations → HasMutations store mutations flight v
 kept_sound store mutations flight v sound is = subst (λ (f : Option Mutation). HasMutations store mutations f v) (sym sound) is
 
-pub serves_as : (cluster other : Opened) (v : View) → cluster ≡ other → IsOnDisk other v → IsOnDisk cluster v
-serves_as cluster other v same kept = subst (λ (o : Opened). IsOnDisk o v) (sym same) kept
+-- ---- the cluster after a commit
+
+module _ (cluster : Opened) (store : Store) (maps : Maps) (mutation : Mutation) (v w : View) (changes : List Change) (sound : cluster.flight ≡ None) (has : HasChanges cluster v changes) where
+  abbrev pub was_opened : IsOpened v 0 1 cluster.store has.mutations
+  was_opened = sound_opened cluster.store has.mutations cluster.flight v sound has.stored
+
+  -- the mutation was entered
+  pub committed : AtRest w store (header_for cluster.store.id) (was_opened.groups ++ (mutation ∷ []) ∷ []) → store.file ≡ cluster.store.file → store.id ≡ cluster.store.id
+      → (step : List ℕ → List ℕ → Type 0) → Throughout v w (After v (Moved cluster.store.file step)) → AgreesWith (changes ++ change_of mutation ∷ []) maps
+      → IsStage (Open (record { host = cluster.host; store = store; contents = maps; flight = cluster.flight })) w (opened (changed (cluster_of cluster changes) (change_of mutation ∷ [])))
+  committed rests file id step moments agrees =
+      let more = changes ++ change_of mutation ∷ [] in (
+        more,
+        record {
+          mutations = has.mutations ++ mutation ∷ [];
+          are = changes_more has.mutations (mutation ∷ []) ∙ ap (λ (cs : List Change). cs ++ change_of mutation ∷ []) has.are;
+          stored = kept_sound store (has.mutations ++ mutation ∷ []) cluster.flight w sound (entered cluster.store store has.mutations mutation v w was_opened rests file id step moments);
+          agrees = agrees;
+        },
+        ap (λ (f : ℕ). opened (record { host = cluster.host; file = f; id = cluster.store.id; changes = more })) (sym file)
+            ∙ ap (λ (i : StoreId). opened (record { host = cluster.host; file = store.file; id = i; changes = more })) (sym id)
+            ∙ ap (λ (f : Option Mutation). stage_with (record { host = cluster.host; file = store.file; id = store.id; changes = more }) f) (sym sound),
+      )
+
+  -- the mutation is in flight
+  pub flown : (flight : Option Mutation) → flight ≡ Some mutation → store ≡ cluster.store
+      → Throughout v w (After v (Moved cluster.store.file (λ old after. OldOrNew (header_for cluster.store.id) was_opened.groups (mutation ∷ []) after))) → AgreesWith changes maps
+      → IsStage (Open (record { host = cluster.host; store = store; contents = maps; flight = flight })) w (failing (cluster_of cluster changes) (change_of mutation ∷ []))
+  flown flight flies_now still moments agrees = (
+    changes,
+    record {
+      mutations = has.mutations;
+      are = has.are;
+      stored = has_in_flight store has.mutations flight mutation w flies_now (flies cluster.store store has.mutations mutation v w was_opened still moments);
+      agrees = agrees;
+    },
+    ap (λ (s : Store). failing (record { host = cluster.host; file = s.file; id = s.id; changes = changes }) (change_of mutation ∷ [])) (sym still)
+        ∙ ap (λ (f : Option Mutation). stage_with (record { host = cluster.host; file = store.file; id = store.id; changes = changes }) f) (sym flies_now),
+  )
+
+-- nothing was begun
+pub not_committed : (cluster : Opened) (maps : Maps) (v : View) (changes : List Change) → HasChanges cluster v changes → AgreesWith changes maps
+    → IsStage (Open (record { host = cluster.host; store = cluster.store; contents = maps; flight = cluster.flight })) v (stage_of cluster changes)
+not_committed cluster maps v changes has agrees = (changes, record { mutations = has.mutations; are = has.are; stored = has.stored; agrees = agrees }, refl)
+
+-- the same, of the cluster and the mutation by other names
+pub stage_as : (new other : Opened) (w : View) (stage : Mutation → Stage) (found asked : Mutation) → new ≡ other → found ≡ asked → IsStage (Open other) w (stage found) → IsStage (Open new) w (stage asked)
+stage_as new other w stage found asked same_cluster same is =
+    subst (λ (o : Opened). IsStage (Open o) w (stage asked)) (sym same_cluster) (subst (λ (m : Mutation). IsStage (Open other) w (stage m)) same is)
+
+-- whatever a commit answers, the store has the mutations whose contents the map holds
+pub still_on_disk : {T : Type 0} (result : Result T DiskRefusal) (cluster new : Opened) (v w : View) (done begun flying : List Change → Stage) → IsOnDisk cluster v
+    → OnOk result ((changes : List Change) → HasChanges cluster v changes → IsStage (Open new) w (done changes))
+    → (IsErrOf result refusals.Failed → (changes : List Change) → HasChanges cluster v changes → IsStage (Open new) w (flying changes))
+    → (IsErrOf result refusals.NoMemory → (changes : List Change) → HasChanges cluster v changes → IsStage (Open new) w (begun changes) ⊎ IsStage (Open new) w (flying changes))
+    → IsOnDisk new w
+still_on_disk (Ok value) cluster new v w done begun flying on_disk entered failed no_memory = let e = entered on_disk.0 on_disk.1 in (e.0, e.1)
+still_on_disk (Err refusals.Failed) cluster new v w done begun flying on_disk entered failed no_memory = let e = failed refl on_disk.0 on_disk.1 in (e.0, e.1)
+still_on_disk (Err refusals.NoMemory) cluster new v w done begun flying on_disk entered failed no_memory = ⊎_elim (λ e. (e.0, e.1)) (λ e. (e.0, e.1)) (no_memory refl on_disk.0 on_disk.1)
+
+-- what is so of each Ok
+pub on_ok : {T E : Type 0} (result : Result T E) (P : Type 0) → P → OnOk result P
+on_ok (Ok value) P is = is
+on_ok (Err fault) P is = tt
+
+pub not_ok : {T E : Type 0} (result : Result T E) (P : Type 0) (fault : E) → result ≡ Err fault → OnOk result P
+not_ok (Ok value) P fault is = absurd cc
+not_ok (Err other) P fault is = tt
+
+-- an answer is Ok or not
+pub ok_not_err : {T E : Type 0} (result : Result T E) (value : T) (fault : E) (P : Type 0) → result ≡ Ok value → result ≡ Err fault → P
+ok_not_err result value fault P is not = absurd cc

@@ -7,6 +7,7 @@ use Rattle.disk_trait.specs.Calls.{Fewer}
 use Rattle.disk_trait.specs.Moments.{Later}
 use Rattle.cache_key.specs.declared.request.Mutation.{Mutation}
 use Rattle.cache_model.specs.Change.{Change, changes_of}
+use Rattle.partition_map.specs.After.{AgreesWith}
 use Rattle.seal_gate.specs.Seal.{IsSettled, Each}
 use Rattle.store_journal.specs.Created.{IsUnsealed}
 use Rattle.store_journal.specs.AtRest.{OldOrNew}
@@ -19,25 +20,19 @@ use Rattle.cluster_commands.specs.declared.cluster.Cluster.TheVariants.{Closed, 
 
 -- ---- in the code
 
-abbrev pub cluster_of : Opened → OpenCluster
-cluster_of cluster = record { host = cluster.host; file = cluster.store.file; id = cluster.store.id; changes = changes_of cluster.mutations.items }
+-- the open cluster, with these changes
+abbrev pub cluster_of : Opened → List Change → OpenCluster
+cluster_of cluster changes = record { host = cluster.host; file = cluster.store.file; id = cluster.store.id; changes = changes }
 
 abbrev pub stage_with : OpenCluster → Option Mutation → Stage
 stage_with cluster None = opened cluster
 stage_with cluster (Some mutation) = failing cluster (changes_of (mutation ∷ []))
 
-abbrev pub stage_of : Opened → Stage
-stage_of cluster = stage_with (cluster_of cluster) cluster.flight
+abbrev pub stage_of : Opened → List Change → Stage
+stage_of cluster changes = stage_with (cluster_of cluster changes) cluster.flight
 
-abbrev pub state_of : Opened → View → Bool → State
-state_of cluster v tells = record { stage = stage_of cluster; faults = v.faults; restarts = v.restarts; tells = tells }
-
--- the code has a cluster at this stage: what is known while it has none stands nowhere in it
-abbrev pub IsStage : Cluster → Stage → Type 0
-IsStage Closed (closed files) = ⊤
-IsStage Closed (opened cluster) = ⊥
-IsStage Closed (failing cluster flight) = ⊥
-IsStage (Open cluster) stage = stage ≡ stage_of cluster
+abbrev pub state_of : Opened → List Change → View → Bool → State
+state_of cluster changes v tells = record { stage = stage_of cluster changes; faults = v.faults; restarts = v.restarts; tells = tells }
 
 -- ---- on the disk
 
@@ -55,8 +50,30 @@ abbrev pub HasMutations : Store → List Mutation → Option Mutation → View �
 HasMutations store mutations None v = IsOpened v 0 1 store mutations
 HasMutations store mutations (Some mutation) v = HasInFlight v store mutations mutation
 
+-- The code and the disk have these changes: the map holds the contents after them, and the store has the mutations that
+-- they are, and perhaps the one in flight.
+pub record HasChanges (cluster : Opened) (v : View) (changes : List Change) : Type 0 where
+  pub mutations : List Mutation
+  pub are : changes_of mutations ≡ changes
+  pub stored : HasMutations cluster.store mutations cluster.flight v
+  pub agrees : AgreesWith changes cluster.contents
+
+-- the store has the mutations whose contents the map holds
 abbrev pub IsOnDisk : Opened → View → Type 0
-IsOnDisk cluster v = HasMutations cluster.store cluster.mutations.items cluster.flight v
+IsOnDisk cluster v = (changes : List Change) × HasChanges cluster v changes
+
+-- the code and the disk have a cluster at this stage: what is known while there is none stands nowhere in the code
+abbrev pub IsStage : Cluster → View → Stage → Type 0
+IsStage Closed v (closed files) = ⊤
+IsStage Closed v (opened cluster) = ⊥
+IsStage Closed v (failing cluster flight) = ⊥
+IsStage (Open cluster) v stage = (changes : List Change) × HasChanges cluster v changes × (stage ≡ stage_of cluster changes)
+
+-- Whichever changes the code and the disk had before, they have some afterwards, and the state with these follows the state
+-- with those.
+pub record StateSteps (old : Opened) (v : View) (new : Opened) (w : View) (follows : State → State → Type 0) : Type 0 where
+  pub steps : (tells : Bool) (before : List Change) → HasChanges old v before
+      → (after : List Change) × HasChanges new w after × follows (state_of old before v tells) (state_of new after w tells)
 
 -- Between commands: with no cluster nothing is pending on the files of its stores, and with one its store is on the disk.
 abbrev pub IsReady : Cluster → View → Type 0
@@ -90,7 +107,7 @@ pub record IsInState (cluster : Cluster) (v : View) (state : State) : Type 0 whe
   pub faults : state.faults ≡ v.faults
   pub restarts : state.restarts ≡ v.restarts
   pub tells : IsTrue state.tells → Tells v
-  pub stage : IsStage cluster state.stage
+  pub stage : IsStage cluster v state.stage
   pub files : FilesHold (files_at state.stage) v
 
 -- the disk is in this state, and has failed at least as often

@@ -1,9 +1,12 @@
 //! What each command does to a cluster, and what it is answered.
-ghost use Rattle.std.specs.Prelude.{◌≡◌, IfOk, OnOk, OnErr, Bool};
+ghost use Rattle.std.specs.Prelude.{◌≡◌, List, IfOk, OnOk, OnErr};
+ghost use Rattle.cache_model.specs.Change.{Change};
 ghost use Rattle.disk_trait.specs.Moments.{Onward};
-ghost use Rattle.cluster_commands.specs.State.{IsStepped, IsDump};
+ghost use Rattle.partition_map.specs.After.{AgreesWith};
+ghost use Rattle.cluster_commands.specs.State.{IsStepped, IsDump, dump_of};
+ghost use Rattle.script_lines.specs.declared.answer.Answer.TheVariants.{Dumped};
 ghost use Rattle.cluster_commands.specs.Breaks.{EventsBreak, Carries, BreaksOff};
-ghost use Rattle.cluster_commands.specs.OnDisk.{cluster_of, state_of, IsReady, IsOnDisk, IsDiskRestarted};
+ghost use Rattle.cluster_commands.specs.OnDisk.{cluster_of, IsReady, IsOnDisk, IsDiskRestarted, StateSteps};
 ghost use Rattle.cluster_commands.specs.declared.cluster.Cluster.TheVariants.{Closed};
 
 use crate::answers::refused;
@@ -13,7 +16,7 @@ use crate::events::run_events;
 use crate::recover::recover;
 use crate::restart::restart_disk;
 use cache_key::HostName;
-use cache_model::collect_contents;
+use cache_model::Contents;
 use disk_trait::Disk;
 use script_lines::{Answer, Command, Events, Outcomes, PartitionDump, PartitionDumps, Refusal};
 use std::alloc::{AllocError, Global};
@@ -75,9 +78,16 @@ fn stop<D: Disk>(disk: &mut D, cluster: &mut Cluster) -> Answer
 }
 
 fn dump(alloc: Global, cluster: &Opened) -> Result<Answer, AllocError>
-    ensures { IfOk result (λ answer. IsDump (cluster_of cluster.now) answer) }
+    ensures { IfOk result (λ answer. (changes : List Change) → AgreesWith changes cluster.now.contents → IsDump (cluster_of cluster.now changes) answer) }
 {
-    let caches = collect_contents(alloc, &cluster.mutations)?;
+    let caches = cluster.contents.contents(alloc)?;
+    dump_with(alloc, cluster, caches)
+}
+
+// The contents are shown. A partition without a cache isn't.
+fn dump_with(alloc: Global, cluster: &Opened, caches: Contents) -> Result<Answer, AllocError>
+    ensures { IfOk result (λ answer. (changes : List Change) → answer ≡ Dumped (dump_of (cluster_of cluster.now changes) caches)) }
+{
     let mut partitions = Vec::new(alloc);
     if !caches.caches().is_empty() {
         let host = cluster.host.copy()?;
@@ -99,8 +109,8 @@ fn steps<D: Disk>(
     events: Events,
 ) -> Result<Answer, AllocError>
     requires on_disk { IsOnDisk cluster.old (D.view disk.old) }
-    ensures step { IfOk result (λ answer. (tells : Bool) → IsStepped (state_of cluster.old (D.view disk.old) tells) events answer (state_of cluster.new (D.view disk.new) tells)) }
-    ensures broken { OnErr result ((tells : Bool) → EventsBreak (state_of cluster.old (D.view disk.old) tells) events (state_of cluster.new (D.view disk.new) tells)) }
+    ensures step { IfOk result (λ answer. StateSteps cluster.old (D.view disk.old) cluster.new (D.view disk.new) (λ before after. IsStepped before events answer after)) }
+    ensures broken { OnErr result (StateSteps cluster.old (D.view disk.old) cluster.new (D.view disk.new) (λ before after. EventsBreak before events after)) }
     ensures on_disk { IsOnDisk cluster.new (D.view disk.new) }
     ensures onward { Onward (D.view disk.old) (D.view disk.new) }
 {

@@ -17,6 +17,7 @@ use crate::restart::refused_with_restart;
 use cache_key::HostName;
 use disk_trait::{Disk, DiskRefusal};
 use newest_store::clear_stores;
+use partition_map::PartitionMap;
 use record_form::Header;
 use script_lines::{Answer, Refusal};
 use std::alloc::{AllocError, Global};
@@ -57,7 +58,7 @@ pub fn create<D: Disk>(
                 cluster: Opened {
                     host: member,
                     store,
-                    mutations: Vec::new(alloc),
+                    contents: PartitionMap::empty(alloc),
                     flight: None,
                 },
             };

@@ -1,20 +1,21 @@
 //! What each event does to an open cluster, and what it comes to.
-ghost use Rattle.std.specs.Prelude.{◌≡◌, ◌∷◌, [], IfOk, OnErr, None, Bool};
-ghost use Rattle.cache_model.specs.Change.{change_of};
+ghost use Rattle.std.specs.Prelude.{◌≡◌, List, ◌∷◌, [], IfOk, OnErr, None};
+ghost use Rattle.cache_model.specs.Change.{Change, change_of};
 ghost use Rattle.cache_model.specs.Reply.{changes_asked, reply_after};
 ghost use Rattle.disk_trait.specs.Moments.{Onward};
 ghost use Rattle.cache_key.specs.declared.request.Request.{Request};
 ghost use Rattle.script_lines.specs.declared.command.Event.TheVariants.{Call};
 ghost use Rattle.cache_model.specs.Parts.{HasPart};
-ghost use Rattle.record_form.specs.GroupText.{HasPairs};
+ghost use Rattle.partition_map.specs.After.{AgreesWith};
+ghost use Rattle.cache_model.specs.PlainList.{HasPairs};
 ghost use Rattle.cluster_commands.specs.State.{PartStep, EventStep, EventRun};
 ghost use Rattle.cluster_commands.specs.Breaks.{PartBreaks, EventBreaks, EventsBreak};
-ghost use Rattle.cluster_commands.specs.OnDisk.{cluster_of, state_of, IsOnDisk};
+ghost use Rattle.cluster_commands.specs.OnDisk.{IsOnDisk, StateSteps};
 
 use crate::cluster::Opened;
 use crate::commit::commit;
 use cache_key::{Mutation, Reply, Request};
-use cache_model::{as_mutation, asks_nothing, is_mutation, reply_to};
+use cache_model::{as_mutation, asks_nothing, is_mutation};
 use disk_trait::{Disk, DiskRefusal};
 use script_lines::{Event, Outcome, Refusal};
 use std::alloc::{AllocError, Global};
@@ -27,8 +28,8 @@ pub fn run_events<D: Disk>(
     events: Vec<Event>,
 ) -> Result<Vec<Outcome>, AllocError>
     requires { IsOnDisk cluster.old (D.view disk.old) }
-    ensures run { IfOk result (λ outcomes. (tells : Bool) → EventRun (state_of cluster.old (D.view disk.old) tells) events.items outcomes.items (state_of cluster.new (D.view disk.new) tells)) }
-    ensures broken { OnErr result ((tells : Bool) → EventsBreak (state_of cluster.old (D.view disk.old) tells) events.items (state_of cluster.new (D.view disk.new) tells)) }
+    ensures run { IfOk result (λ outcomes. StateSteps cluster.old (D.view disk.old) cluster.new (D.view disk.new) (λ before after. EventRun before events.items outcomes.items after)) }
+    ensures broken { OnErr result (StateSteps cluster.old (D.view disk.old) cluster.new (D.view disk.new) (λ before after. EventsBreak before events.items after)) }
     ensures on_disk { IsOnDisk cluster.new (D.view disk.new) }
     ensures onward { Onward (D.view disk.old) (D.view disk.new) }
 {
@@ -47,8 +48,8 @@ fn run_event<D: Disk>(
     event: Event,
 ) -> Result<Outcome, AllocError>
     requires { IsOnDisk cluster.old (D.view disk.old) }
-    ensures step { IfOk result (λ outcome. (tells : Bool) → EventStep (state_of cluster.old (D.view disk.old) tells) event outcome (state_of cluster.new (D.view disk.new) tells)) }
-    ensures broken { OnErr result ((tells : Bool) → EventBreaks (state_of cluster.old (D.view disk.old) tells) event (state_of cluster.new (D.view disk.new) tells)) }
+    ensures step { IfOk result (λ outcome. StateSteps cluster.old (D.view disk.old) cluster.new (D.view disk.new) (λ before after. EventStep before event outcome after)) }
+    ensures broken { OnErr result (StateSteps cluster.old (D.view disk.old) cluster.new (D.view disk.new) (λ before after. EventBreaks before event after)) }
     ensures on_disk { IsOnDisk cluster.new (D.view disk.new) }
     ensures onward { Onward (D.view disk.old) (D.view disk.new) }
 {
@@ -65,8 +66,8 @@ fn call<D: Disk>(
     request: Request,
 ) -> Result<Outcome, AllocError>
     requires { IsOnDisk cluster.old (D.view disk.old) }
-    ensures step { IfOk result (λ outcome. (tells : Bool) → EventStep (state_of cluster.old (D.view disk.old) tells) (Call request) outcome (state_of cluster.new (D.view disk.new) tells)) }
-    ensures broken { OnErr result ((tells : Bool) → EventBreaks (state_of cluster.old (D.view disk.old) tells) (Call request) (state_of cluster.new (D.view disk.new) tells)) }
+    ensures step { IfOk result (λ outcome. StateSteps cluster.old (D.view disk.old) cluster.new (D.view disk.new) (λ before after. EventStep before (Call request) outcome after)) }
+    ensures broken { OnErr result (StateSteps cluster.old (D.view disk.old) cluster.new (D.view disk.new) (λ before after. EventBreaks before (Call request) after)) }
     ensures on_disk { IsOnDisk cluster.new (D.view disk.new) }
     ensures onward { Onward (D.view disk.old) (D.view disk.new) }
 {
@@ -85,15 +86,15 @@ fn ask<D: Disk>(
 ) -> Result<Outcome, AllocError>
     requires part { HasPart request }
     requires on_disk { IsOnDisk cluster.old (D.view disk.old) }
-    ensures step { IfOk result (λ outcome. (tells : Bool) → PartStep (state_of cluster.old (D.view disk.old) tells) request outcome (state_of cluster.new (D.view disk.new) tells)) }
-    ensures broken { OnErr result ((tells : Bool) → PartBreaks (state_of cluster.old (D.view disk.old) tells) request (state_of cluster.new (D.view disk.new) tells)) }
+    ensures step { IfOk result (λ outcome. StateSteps cluster.old (D.view disk.old) cluster.new (D.view disk.new) (λ before after. PartStep before request outcome after)) }
+    ensures broken { OnErr result (StateSteps cluster.old (D.view disk.old) cluster.new (D.view disk.new) (λ before after. PartBreaks before request after)) }
     ensures on_disk { IsOnDisk cluster.new (D.view disk.new) }
     ensures onward { Onward (D.view disk.old) (D.view disk.new) }
 {
     if cluster.flight.is_some() && is_mutation(&request) {
         return Ok(refused(Refusal::Closed));
     }
-    let reply = reply_to(alloc, &cluster.mutations, &request)?;
+    let reply = cluster.contents.answer(alloc, &request)?;
     match as_mutation(request) {
         Some(mutation) => change(alloc, disk, cluster, mutation, reply),
         None => Ok(Outcome::Replied { reply }),
@@ -111,10 +112,10 @@ fn change<D: Disk>(
     requires sound { cluster.old.flight ≡ None }
     requires pairs { HasPairs mutation }
     requires on_disk { IsOnDisk cluster.old (D.view disk.old) }
-    ensures step { IfOk result (λ outcome. (tells : Bool) (request : Request) → changes_asked request ≡ change_of mutation ∷ [] → reply ≡ reply_after (cluster_of cluster.old).changes request
-        → PartStep (state_of cluster.old (D.view disk.old) tells) request outcome (state_of cluster.new (D.view disk.new) tells)) }
-    ensures broken { OnErr result ((tells : Bool) (request : Request) → changes_asked request ≡ change_of mutation ∷ []
-        → PartBreaks (state_of cluster.old (D.view disk.old) tells) request (state_of cluster.new (D.view disk.new) tells)) }
+    ensures step { IfOk result (λ outcome. (request : Request) → changes_asked request ≡ change_of mutation ∷ [] → ((changes : List Change) → AgreesWith changes cluster.old.contents → reply ≡ reply_after changes request)
+        → StateSteps cluster.old (D.view disk.old) cluster.new (D.view disk.new) (λ before after. PartStep before request outcome after)) }
+    ensures broken { OnErr result ((request : Request) → changes_asked request ≡ change_of mutation ∷ []
+        → StateSteps cluster.old (D.view disk.old) cluster.new (D.view disk.new) (λ before after. PartBreaks before request after)) }
     ensures on_disk { IsOnDisk cluster.new (D.view disk.new) }
     ensures onward { Onward (D.view disk.old) (D.view disk.new) }
 {

@@ -5,7 +5,7 @@
 //!   out in is broken off, and leaves a state too (`CommandBreaks`, specs/Breaks.antt).
 //! Keeps: after each command, each image that a stop may leave has what the state says: the changes that were answered, and
 //!   of those in flight all or nothing (`IsInState`, `DiskIsIn`, specs/OnDisk.antt).
-//! Hides: that the contents are a list of mutations for now.
+//! Hides: that the contents stand in a map, and that all memory of a change is taken before the first device call.
 //! Not here: a script, its report and its statuses (script_loop, cluster_cli), which store of a disk is the newest
 //!   (newest_store), what a store's bytes are (store_journal).
 //! Laws: FilesLemmas.

@@ -66,13 +66,13 @@ pub fn recover<D: Disk>(
 fn opened_at(host: HostName, loaded: Loaded) -> Opened
     ensures host { result.host ≡ host }
     ensures store { result.store ≡ loaded.store }
-    ensures mutations { result.mutations.items ≡ loaded.mutations.items }
+    ensures contents { result.contents ≡ loaded.contents }
     ensures sound { result.flight ≡ None }
 {
     Opened {
         host,
         store: loaded.store,
-        mutations: loaded.mutations,
+        contents: loaded.contents,
         flight: None,
     }
 }

@@ -28,7 +28,7 @@ stays_blank at old (byte ∷ rest) blank same =
 longer : (prefix : List ℕ) (size number so_far : ℕ) → length prefix ≡ so_far → length (prefix ++ bytes_of size number) ≡ so_far + size
 longer prefix size number so_far is = omega (arith, is, length-append prefix (bytes_of size number), length-bytes_of size number)
 
-length-header_text : (header : Header) → length (header_text header) ≡ 40
+pub length-header_text : (header : Header) → length (header_text header) ≡ 40
 length-header_text header =
     longer _ 4 0 36 (longer _ 8 0 28 (longer _ 2 header.partitions 26 (longer _ 2 header.id.host 24 (longer _ 8 header.id.epoch 16
     (longer _ 8 header.id.version 8 (longer _ 2 header.id.partition 6 (longer _ 2 store_format 4 (length-bytes_of 4 store_magic))))))))

@@ -1,3 +1,4 @@
+pub mod ContentsLemmas
 pub mod TextLemmas
 pub mod TextOnce
 pub mod StandsLemmas
@@ -6,7 +7,6 @@ pub mod IdentityLemmas
 pub mod ReadLemmas
 pub mod RecordLemmas
 pub mod LoadLemmas
-mod CreatedLemmas
+pub mod CreatedLemmas
 mod AppendLemmas
 mod CreateLemmas
-mod ModelLengthLemmas

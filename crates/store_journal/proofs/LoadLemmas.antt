@@ -14,13 +14,16 @@ use Rattle.record_form.proofs.HeaderLemmas.{header_in-header_text}
 use Rattle.seal_gate.specs.Seal.{IsSealed}
 use Rattle.store_ident.specs.declared.ident.StoreId.{StoreId}
 use Rattle.store_journal.specs.Text.{Records, ClosedRecords, IsText}
+use Rattle.partition_map.specs.After.{Maps}
 use Rattle.store_journal.specs.AtRest.{IsKeptIn}
+use Rattle.store_journal.specs.ContentsOf.{HasContentsOf}
 use Rattle.store_journal.specs.Fault.{offset_if_fault, shifted, ◌or_earlier◌, other_number, header_fault_offset, IsDamagedAt}
 use Rattle.store_journal.specs.Loading.{HasHeaderOf, AreBefore, IsRecordsFault, IsStoreFault, IsStoreEndingAt, IsLoaded}
 use Rattle.store_journal.specs.declared.store.Store.{Store}
 use Rattle.store_journal.specs.declared.fault.LoadFault.{LoadFault}
 use Rattle.store_journal.specs.declared.fault.LoadFault.TheVariants.{NotSealed, Damaged, Failed, NoMemory}
 use Rattle.store_journal.proofs.FaultLemmas.{text_is_whole}
+use Rattle.store_journal.proofs.ContentsLemmas.{contents_as}
 use Rattle.store_journal.proofs.StandsLemmas.{within_head}
 
 without_fault : (found : Option RecordFault) → ((fault : RecordFault) → found ≡ Some fault → ⊥) → found ≡ None
@@ -87,18 +90,23 @@ records_fail bytes partition partitions NotSealed sealed none is = absurd is
 records_fail bytes partition partitions Failed sealed none is = absurd is
 
 -- a whole store
-pub all_found : (bytes : List ℕ) (partition partitions : ℕ) (id : StoreId) (mutations : List Mutation) (end : ℕ) → IsSealed bytes → HasHeaderOf bytes partition partitions id → AreBefore bytes end mutations → drop end bytes ≡ 0 ∷ drop (end + 1) bytes
+store_found : (bytes : List ℕ) (partition partitions : ℕ) (id : StoreId) (mutations : List Mutation) (end : ℕ) → IsSealed bytes → HasHeaderOf bytes partition partitions id → AreBefore bytes end mutations → drop end bytes ≡ 0 ∷ drop (end + 1) bytes
     → IsStoreEndingAt bytes partition partitions id mutations end
-all_found bytes partition partitions id mutations end sealed head before closed =
+store_found bytes partition partitions id mutations end sealed head before closed =
     let header : Header = record { id = id; partitions = partitions } in
     let records : ClosedRecords (drop 41 bytes) before.groups = (drop (end + 1) bytes, subst (λ (l : List ℕ). Records (drop 41 bytes) before.groups l) closed before.whole) in
     let text : IsText header before.groups bytes = record { limits = head.limits; sealed = sealed; named = head.named; records = records } in
     record { groups = before.groups; joined = before.joined; text = text; gate = before.there; of_partition = head.of_partition }
 
+pub all_found : (bytes : List ℕ) (partition partitions : ℕ) (id : StoreId) (maps : Maps) (end : ℕ) → IsSealed bytes → HasHeaderOf bytes partition partitions id → HasContentsOf (AreBefore bytes end) maps → drop end bytes ≡ 0 ∷ drop (end + 1) bytes
+    → HasContentsOf (λ mutations. IsStoreEndingAt bytes partition partitions id mutations end) maps
+all_found bytes partition partitions id maps end sealed head held closed = contents_as (AreBefore bytes end) (λ mutations. IsStoreEndingAt bytes partition partitions id mutations end) maps
+    (λ mutations before. store_found bytes partition partitions id mutations end sealed head before closed) held
+
 -- the groups that were found in what a read gives
-pub loaded_is : (old new : View) (partition partitions : ℕ) (store : Store) (bytes : List ℕ) (id : StoreId) (mutations : List Mutation) (end : ℕ) → IsStoreEndingAt bytes partition partitions id mutations end → (Tells old → bytes ≡ old.seen store.file) → Same old new
+read_is : (old new : View) (partition partitions : ℕ) (store : Store) (bytes : List ℕ) (id : StoreId) (mutations : List Mutation) (end : ℕ) → IsStoreEndingAt bytes partition partitions id mutations end → (Tells old → bytes ≡ old.seen store.file) → Same old new
     → store.id ≡ id → store.end ≡ end → IsLoaded old new partitions store mutations
-loaded_is old new partition partitions store bytes id mutations end found read same is_id is_end =
+read_is old new partition partitions store bytes id mutations end found read same is_id is_end =
     let header : Header = record { id = store.id; partitions = partitions } in
     let text : IsText header found.groups bytes = subst (λ (i : StoreId). IsText (record { id = i; partitions = partitions }) found.groups bytes) (sym is_id) found.text in
     let kept : (other : List ℕ) → bytes ≡ other → IsKeptIn store header found.groups other = λ other e. record {
@@ -114,6 +122,11 @@ loaded_is old new partition partitions store bytes id mutations end found read s
           let before = same.fewer m is in
           kept (m store.file) (read (old.told m before) ∙ sym (settled m before));
     }
+
+pub loaded_is : (old new : View) (partition partitions : ℕ) (store : Store) (bytes : List ℕ) (id : StoreId) (maps : Maps) (end : ℕ) → HasContentsOf (λ mutations. IsStoreEndingAt bytes partition partitions id mutations end) maps → (Tells old → bytes ≡ old.seen store.file) → Same old new
+    → store.id ≡ id → store.end ≡ end → HasContentsOf (IsLoaded old new partitions store) maps
+loaded_is old new partition partitions store bytes id maps end found read same is_id is_end = contents_as (λ mutations. IsStoreEndingAt bytes partition partitions id mutations end) (IsLoaded old new partitions store) maps
+    (λ mutations is. read_is old new partition partitions store bytes id mutations end is read same is_id is_end) found
 
 -- a store's bytes are refused only where memory runs out
 pub text_passes : (bytes : List ℕ) (partition partitions : ℕ) (fault : LoadFault) (header : Header) (groups : List (List Mutation)) → IsStoreFault bytes partition partitions fault

@@ -9,12 +9,15 @@ use Rattle.byte_fields.specs.Numbers.{bytes_of, number_in}
 use Rattle.byte_fields.specs.Counted.{counted32_text}
 use Rattle.byte_fields.proofs.NumbersLemmas.{AreBytes}
 use Rattle.cache_key.specs.declared.request.Mutation.{Mutation}
+use Rattle.cache_model.specs.Change.{Change, changes_of}
+use Rattle.partition_map.specs.After.{Maps, AgreesWith}
 use Rattle.record_form.specs.declared.fault.RecordFault.{RecordFault}
 use Rattle.record_form.specs.declared.fault.RecordFault.TheVariants as faults
 use Rattle.record_form.specs.GroupText.{IsGroup, IsGroupText, group_text, most_group_bytes}
 use Rattle.record_form.specs.GroupFault.{group_fault}
 use Rattle.record_form.proofs.HeaderLemmas.{spelled_on}
 use Rattle.record_form.proofs.GroupFaultLemmas.{group_found}
+use Rattle.store_journal.specs.ContentsOf.{HasContentsOf}
 use Rattle.store_journal.specs.Text.{Records, end_of}
 use Rattle.record_form.specs.FaultOffset.{offset_of}
 use Rattle.store_journal.specs.Fault.{offset_if_fault, shifted, ◌or_earlier◌, payload_fault_offset, tail_fault_offset, record_fault_offset, IsRecordFault}
@@ -22,6 +25,7 @@ use Rattle.store_journal.specs.Loading.{IsFaultAt, IsRecordsFault, IsRecordAt, A
 use Rattle.store_journal.specs.declared.fault.LoadFault.{LoadFault}
 use Rattle.store_journal.specs.declared.fault.LoadFault.TheVariants.{NotSealed, Damaged, Failed, NoMemory}
 use Rattle.record_form.proofs.FaultBounds.{group_fault_within}
+use Rattle.store_journal.proofs.ContentsLemmas.{agrees_more}
 
 shifted_twice : (a b : ℕ) (offset : Option ℕ) → shifted a (shifted b offset) ≡ shifted (a + b) offset
 shifted_twice a b None = refl
@@ -220,8 +224,8 @@ module _ (bytes : List ℕ) (offset : ℕ) (there : offset < length bytes) (is_o
         }
 
 -- the records so far: none, and one more
-pub none_before : (bytes : List ℕ) → AreBefore bytes 41 []
-none_before bytes = record { groups = []; joined = refl; whole = refl; there = refl }
+pub none_before : (bytes : List ℕ) (maps : Maps) → AgreesWith [] maps → HasContentsOf (AreBefore bytes 41) maps
+none_before bytes maps agrees = record { mutations = []; so = record { groups = []; joined = refl; whole = refl; there = refl }; agrees = agrees }
 
 one_record : (groups : List (List Mutation)) (group : List Mutation) (rest following next : List ℕ) (gate : ℕ) → gate ≢ 0 → IsGroup group → Records rest groups following → following ≡ gate ∷ counted32_text (group_text group) ++ next → Records rest (groups ++ group ∷ []) next
 one_record [] group rest following next gate is_open is so_far spelled = (gate, next, is_open, is, so_far ∙ spelled, refl)
@@ -235,12 +239,20 @@ end_more (first ∷ groups) group = omega (arith, end_more groups group)
 joined_more : (groups : List (List Mutation)) (group : List Mutation) → flat_map (λ group. group) (groups ++ group ∷ []) ≡ flat_map (λ group. group) groups ++ group
 joined_more groups group = flat_map-append (λ group. group) groups (group ∷ []) ∙ ap (λ (l : List Mutation). flat_map (λ group. group) groups ++ l) (append-nil group)
 
-pub one_more : (bytes : List ℕ) (offset : ℕ) (mutations more group : List Mutation) (end : ℕ) → AreBefore bytes offset mutations → IsRecordAt bytes offset group end → more ≡ mutations ++ group → AreBefore bytes end more
-one_more bytes offset mutations more group end before is added = record {
+before_more : (bytes : List ℕ) (offset : ℕ) (mutations group : List Mutation) (end : ℕ) → AreBefore bytes offset mutations → IsRecordAt bytes offset group end → AreBefore bytes end (mutations ++ group)
+before_more bytes offset mutations group end before is = record {
   groups = before.groups ++ group ∷ [];
-  joined = added ∙ ap (λ (l : List Mutation). l ++ group) before.joined ∙ sym (joined_more before.groups group);
+  joined = ap (λ (l : List Mutation). l ++ group) before.joined ∙ sym (joined_more before.groups group);
   whole = one_record before.groups group (drop 41 bytes) (drop offset bytes) (drop end bytes) is.gate is.is_open is.group before.whole is.spelled;
   there = omega (arith, is.there, before.there, end_more before.groups group);
+}
+
+pub one_more : (bytes : List ℕ) (offset : ℕ) (group : List Mutation) (end : ℕ) (old new : Maps) → HasContentsOf (AreBefore bytes offset) old → IsRecordAt bytes offset group end
+    → ((changes : List Change) → AgreesWith changes old → AgreesWith (changes ++ changes_of group) new) → HasContentsOf (AreBefore bytes end) new
+one_more bytes offset group end old new before is goes = record {
+  mutations = before.mutations ++ group;
+  so = before_more bytes offset before.mutations group end before.so is;
+  agrees = agrees_more before.mutations group new (goes (changes_of before.mutations) before.agrees);
 }
 
 -- what fails after them
@@ -248,29 +260,33 @@ shifted_some : (from at : ℕ) (offset : Option ℕ) → shifted from offset ≡
 shifted_some from at None is = absurd cc
 shifted_some from at (Some inner) is = (inner, refl, cc)
 
-pub record_fails : (bytes : List ℕ) (offset : ℕ) (mutations : List Mutation) (fault : LoadFault) → AreBefore bytes offset mutations → IsFaultAt (shifted offset (record_fault_offset (drop offset bytes))) fault → IsRecordsFault bytes fault
-record_fails bytes offset mutations (Damaged at) before is =
+pub record_fails : (bytes : List ℕ) (offset : ℕ) (maps : Maps) (fault : LoadFault) → HasContentsOf (AreBefore bytes offset) maps → IsFaultAt (shifted offset (record_fault_offset (drop offset bytes))) fault → IsRecordsFault bytes fault
+record_fails bytes offset maps (Damaged at) before is =
     let inner = shifted_some offset at (record_fault_offset (drop offset bytes)) is in
     record {
-      groups = before.groups;
+      groups = before.so.groups;
       following = drop offset bytes;
-      whole = before.whole;
+      whole = before.so.whole;
       at = inner.0;
       fault = inner.1;
-      there = omega (arith, inner.2, before.there);
+      there = omega (arith, inner.2, before.so.there);
     }
-record_fails bytes offset mutations NoMemory before is = tt
-record_fails bytes offset mutations NotSealed before is = absurd is
-record_fails bytes offset mutations Failed before is = absurd is
+record_fails bytes offset maps NoMemory before is = tt
+record_fails bytes offset maps NotSealed before is = absurd is
+record_fails bytes offset maps Failed before is = absurd is
 
-pub ends_there : (bytes : List ℕ) (offset : ℕ) (mutations : List Mutation) → AreBefore bytes offset mutations → length bytes ≤ offset → IsRecordFault bytes offset
-ends_there bytes offset mutations before end = record {
-  groups = before.groups;
+-- a refusal of a record that is handed on
+pub refused_so : {T : Type 0} (r : Result T LoadFault) (P : T → Type 0) (bytes : List ℕ) (fault other : LoadFault) → r ≡ Err fault → fault ≡ other → IsRecordsFault bytes other → MatchResult r P (λ f. IsRecordsFault bytes f)
+refused_so r P bytes fault other is same has = subst (λ x. MatchResult x P (λ f. IsRecordsFault bytes f)) (sym (is ∙ ap Err same)) has
+
+pub ends_there : (bytes : List ℕ) (offset : ℕ) (maps : Maps) → HasContentsOf (AreBefore bytes offset) maps → length bytes ≤ offset → IsRecordFault bytes offset
+ends_there bytes offset maps before end = record {
+  groups = before.so.groups;
   following = drop offset bytes;
-  whole = before.whole;
+  whole = before.so.whole;
   at = 0;
   fault = ap record_fault_offset (drop_all offset bytes end);
-  there = omega (arith, before.there);
+  there = omega (arith, before.so.there);
 }
 
 pub closed_there : (bytes : List ℕ) (offset : ℕ) → offset < length bytes → slice_index bytes offset ≡ 0 → drop offset bytes ≡ 0 ∷ drop (offset + 1) bytes

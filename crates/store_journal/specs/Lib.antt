@@ -1,5 +1,6 @@
 pub mod Text
 pub mod AtRest
+pub mod ContentsOf
 pub mod Created
 pub mod Stands
 pub mod Fault

@@ -1,13 +1,14 @@
 // Whether bytes are a store of a partition, and else the first offset at which they aren't.
 ghost use Rattle.std.specs.Prelude.{◌↔◌, ◌<◌, length, MatchResult, IsTrue};
 ghost use Rattle.seal_gate.specs.Seal.{IsSealed};
+ghost use Rattle.store_journal.specs.ContentsOf.{HasContentsOf};
 ghost use Rattle.store_journal.specs.Loading.{IsStoreEndingAt, IsStoreFault};
 
 use crate::fault::LoadFault;
 use crate::head::{header_fault_offset, id_of};
 use crate::layout::FIRST_GATE;
 use crate::records::records;
-use cache_key::Mutation;
+use partition_map::PartitionMap;
 use std::alloc::Global;
 use store_ident::StoreId;
 
@@ -15,12 +16,12 @@ use store_ident::StoreId;
 #[derive(Drop)]
 pub(crate) struct Found {
     pub(crate) id: StoreId,
-    pub(crate) mutations: Vec<Mutation>,
+    pub(crate) contents: PartitionMap,
     pub(crate) end: u64,
 }
 
 /// Judges the seal, then the header, then record after record.
-#[tactic(auto, using(crate::proofs::LoadLemmas::head_fails, crate::proofs::LoadLemmas::records_fail, crate::proofs::LoadLemmas::all_found))]
+#[tactic(auto, using(crate::proofs::LoadLemmas::head_fails, crate::proofs::LoadLemmas::records_fail))]
 pub(crate) fn judge(
     alloc: Global,
     bytes: &[u8],
@@ -28,7 +29,7 @@ pub(crate) fn judge(
     partitions: u16,
 ) -> Result<Found, LoadFault>
     ensures judged { MatchResult result
-        (λ found. IsStoreEndingAt bytes.now partition partitions found.id found.mutations.items found.end × (found.end < length bytes.now))
+        (λ found. HasContentsOf (λ mutations. IsStoreEndingAt bytes.now partition partitions found.id mutations found.end) found.contents × (found.end < length bytes.now))
         (λ fault. IsStoreFault bytes.now partition partitions fault) }
 {
     if !has_seal(bytes) {
@@ -40,7 +41,7 @@ pub(crate) fn judge(
     let read = records(alloc, bytes)?;
     Ok(Found {
         id: id_of(bytes, partition, partitions),
-        mutations: read.mutations,
+        contents: read.contents,
         end: read.end as u64,
     })
 }

@@ -1,12 +1,10 @@
 //! What holds of the bytes of stores, and of the files of a partition: each law is the contract of a function that does
 //! nothing.
-ghost use Rattle.std.specs.Prelude.{◌≡◌, ℕ, List, length};
+ghost use Rattle.std.specs.Prelude.{◌≡◌, ℕ, List};
 ghost use Rattle.cache_key.specs.declared.request.Mutation.{Mutation};
 ghost use Rattle.cache_model.specs.Change.{Change};
 ghost use Rattle.cache_model.specs.Contents.{SameContents};
-ghost use Rattle.cache_model.specs.PlainList.{spelled_length, most_growth};
 ghost use Rattle.record_form.specs.declared.header.Header.{Header};
-ghost use Rattle.record_form.specs.GroupText.{mutation_text, growth_of};
 ghost use Rattle.store_journal.specs.Text.{IsText};
 ghost use Rattle.store_journal.specs.Fault.{IsDamagedAt};
 ghost use Rattle.store_journal.specs.Stands.{StandsFor};
@@ -29,10 +27,4 @@ pub fn damage_has_one_offset()
 pub fn files_have_one_contents()
     ensures { (files : List (List ℕ)) (partition partitions : ℕ) (changes others : List Change)
         → StandsFor files partition partitions changes → StandsFor files partition partitions others → SameContents changes others }
-{}
-
-/// A mutation has the length that the model of contents counts, and lengthens a store as the model says. Does nothing.
-pub fn mutations_have_the_lengths_of_the_model()
-    ensures spelled { (mutation : Mutation) → length (mutation_text mutation) ≡ spelled_length mutation }
-    ensures growth { (mutation : Mutation) → growth_of mutation ≡ most_growth mutation }
 {}

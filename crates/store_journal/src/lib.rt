@@ -4,13 +4,14 @@
 //! stand for a list of changes together (`StandsFor`, `Survives`, specs/Stands.antt).
 //! Keeps: at every moment of `append` each crash image has the old groups, or the old groups and the whole new one; at
 //! every moment of `create` the file isn't sealed, is as it was but for its first byte, or is the whole empty store.
-//! `load` writes nothing, and answers the groups that the bytes have (`IsLoaded`, specs/Loading.antt), or where they
-//! first leave the form of a store (`IsDamagedAt`, specs/Fault.antt); `identify` does so for the header alone.
+//! `load` writes nothing, and answers the contents after the groups that the bytes have (`HasContentsOf`,
+//! specs/ContentsOf.antt, of `IsLoaded`, specs/Loading.antt), or where they first leave the form of a store (`IsDamagedAt`,
+//! specs/Fault.antt); `identify` does so for the header alone.
 //! That bytes are one store, and files stand for one list's contents: `laws`.
 //! Hides: in which order an append and a creation write, that the gate of a new record opens last, and that a file is
-//! read whole, in pieces, before it is judged.
+//! read whole, in pieces, before it is judged; and that no list of all mutations is made.
 //! Not here: which of two files is newer (newest_store), and the bytes of a header or a group (record_form).
-//! Laws: FaultLemmas, StandsLemmas, TextLemmas, TextOnce.
+//! Laws: ContentsLemmas, CreatedLemmas, FaultLemmas, StandsLemmas, TextLemmas, TextOnce.
 #![tactic(auto)]
 
 mod create;

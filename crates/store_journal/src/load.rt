@@ -4,6 +4,7 @@ ghost use Rattle.cache_key.specs.declared.request.Mutation.{Mutation};
 ghost use Rattle.disk_trait.specs.View.{Image, View, Tells};
 ghost use Rattle.disk_trait.specs.Calls.{Rose};
 ghost use Rattle.record_form.specs.declared.header.Header.{Header};
+ghost use Rattle.store_journal.specs.ContentsOf.{HasContentsOf};
 ghost use Rattle.store_journal.specs.Text.{IsText};
 ghost use Rattle.store_journal.specs.Created.{IsUnsealed};
 ghost use Rattle.store_journal.specs.Fault.{IsDamagedAt};
@@ -15,8 +16,8 @@ use crate::fault::LoadFault;
 use crate::judge::judge;
 use crate::read_all::read_all;
 use crate::store::Store;
-use cache_key::Mutation;
 use disk_trait::Disk;
+use partition_map::PartitionMap;
 use std::alloc::Global;
 
 /// A store and what it holds.
@@ -24,16 +25,16 @@ use std::alloc::Global;
 pub struct Loaded {
     /// The store.
     pub store: Store,
-    /// Its mutations, the oldest first.
-    pub mutations: Vec<Mutation>,
+    /// The contents after its mutations.
+    pub contents: PartitionMap,
 }
 
 impl Store {
     /// Reads the file's store, as that of a partition in a site of so many partitions.
     ///
     /// The faults are judged in their order: `Failed` at a read, `NotSealed`, `Damaged`; `NoMemory` may come at any
-    /// time. What is pending is read too. Takes memory for the whole file and for the mutations. One device call for
-    /// the length, and a read for each 65,536 bytes.
+    /// time. What is pending is read too. Takes memory for the whole file, for the mutations of one record, and for the
+    /// contents. One device call for the length, and a read for each 65,536 bytes.
     pub fn load<D: Disk>(
         alloc: Global,
         disk: &mut D,
@@ -43,8 +44,9 @@ impl Store {
     ) -> Result<Loaded, LoadFault>
         requires file { file ≤ 10 }
 
-        // After Ok the mutations are those that the file's bytes have, and the store rests where nothing was pending.
-        ensures loaded { IfOk result (λ loaded. IsLoaded (D.view disk.old) (D.view disk.new) partitions loaded.store loaded.mutations.items) }
+        // After Ok the contents are those of the mutations that the file's bytes have, and the store rests where nothing was
+        // pending.
+        ensures loaded { IfOk result (λ loaded. HasContentsOf (IsLoaded (D.view disk.old) (D.view disk.new) partitions loaded.store) loaded.contents) }
         ensures store { IfOk result (λ loaded. (loaded.store.file ≡ file) × (loaded.store.id.partition ≡ partition)) }
 
         // The refusals, in the order in which they are judged.
@@ -64,7 +66,7 @@ impl Store {
                 id: found.id,
                 end: found.end,
             },
-            mutations: found.mutations,
+            contents: found.contents,
         })
     }
 }

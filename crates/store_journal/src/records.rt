@@ -5,6 +5,9 @@ ghost use Rattle.record_form.specs.GroupText.{IsGroupText, closed_gate, most_gro
 ghost use Rattle.record_form.specs.GroupFault.{group_fault};
 ghost use Rattle.seal_gate.specs.Seal.{header_end};
 ghost use Rattle.record_form.specs.FaultOffset.{offset_of};
+ghost use Rattle.cache_model.specs.Change.{Change, changes_of};
+ghost use Rattle.partition_map.specs.After.{AgreesWith};
+ghost use Rattle.store_journal.specs.ContentsOf.{HasContentsOf};
 ghost use Rattle.store_journal.specs.Fault.{offset_if_fault, shifted, payload_fault_offset, tail_fault_offset, record_fault_offset};
 ghost use Rattle.store_journal.specs.Loading.{IsFaultAt, IsRecordsFault, IsRecordAt, AreBefore};
 
@@ -13,6 +16,7 @@ use crate::head::offset_of;
 use crate::layout::FIRST_GATE;
 use byte_fields::u32_at;
 use cache_key::Mutation;
+use partition_map::PartitionMap;
 use record_form::{CLOSED_GATE, Group, MOST_GROUP_BYTES, RECORD_HEAD, RecordFault, decode_group};
 use std::alloc::{AllocError, Global};
 
@@ -23,42 +27,45 @@ struct Record {
     end: usize,
 }
 
-/// The mutations of the records, and the offset of the closed gate after them.
+/// The contents after the records, and the offset of the closed gate after them.
 #[derive(Drop)]
 pub(crate) struct ReadRecords {
-    pub(crate) mutations: Vec<Mutation>,
+    pub(crate) contents: PartitionMap,
     pub(crate) end: usize,
 }
 
-/// The mutations of all records, the oldest first, and the offset of the closed gate.
+/// The contents after all records, and the offset of the closed gate.
 #[tactic(auto, using(crate::proofs::RecordLemmas::none_before, crate::proofs::RecordLemmas::one_more, crate::proofs::RecordLemmas::closed_there, crate::proofs::RecordLemmas::record_fails, crate::proofs::RecordLemmas::ends_there))]
 pub(crate) fn records(alloc: Global, bytes: &[u8]) -> Result<ReadRecords, LoadFault>
     requires { header_end ≤ length bytes.now }
     ensures records { MatchResult result
-        (λ records. AreBefore bytes.now records.end records.mutations.items × (records.end < length bytes.now) × (drop records.end bytes.now ≡ closed_gate ∷ drop (records.end + 1) bytes.now))
+        (λ records. HasContentsOf (AreBefore bytes.now records.end) records.contents × (records.end < length bytes.now) × (drop records.end bytes.now ≡ closed_gate ∷ drop (records.end + 1) bytes.now))
         (λ fault. IsRecordsFault bytes.now fault) }
 {
-    let mut mutations = Vec::new(alloc);
+    let mut contents = PartitionMap::empty(alloc);
     let mut offset = FIRST_GATE;
     while offset < bytes.len() && bytes[offset] != CLOSED_GATE {
         let found = record_at(alloc, bytes, offset)?;
-        add_all(&mut mutations, found.mutations)?;
+        change_all(&mut contents, found.mutations)?;
         offset = found.end;
     }
     if offset < bytes.len() {
         return Ok(ReadRecords {
-            mutations,
+            contents,
             end: offset,
         });
     }
     Err(LoadFault::Damaged { at: offset as u64 })
 }
 
-/// Adds mutations after the others.
-fn add_all(mutations: &mut Vec<Mutation>, mut more: Vec<Mutation>) -> Result<(), AllocError>
-    ensures { OnOk result (mutations.new.items ≡ mutations.old.items ++ more.items) }
+/// Makes the changes of these mutations, one after the other.
+fn change_all(contents: &mut PartitionMap, mutations: Vec<Mutation>) -> Result<(), AllocError>
+    ensures { OnOk result ((changes : List Change) → AgreesWith changes contents.old → AgreesWith (changes ++ changes_of mutations.items) contents.new) }
 {
-    mutations.append(&mut more)
+    for mutation in mutations {
+        contents.change(mutation)?;
+    }
+    Ok(())
 }
 
 /// The record whose open gate stands at an offset.

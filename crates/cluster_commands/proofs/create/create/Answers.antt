@@ -18,12 +18,12 @@ returns-then-not-is_member-clause-carried g c = record {
 pub returns-in-Ok-clause-carried : goal.returns-in-Ok-clause-carried
 returns-in-Ok-clause-carried g c = record {
   step = λ state at.
-      let cluster : Opened = record { host = c.in_ok-member.member; store = c.in-Ok.store; mutations = c.new.result; flight = None } in
+      let cluster : Opened = record { host = c.in_ok-member.member; store = c.in-Ok.store; contents = c.empty.result; flight = None } in
       let named = c.in-Ok.ensures.store in
       let on = c.make_store.ensures.onward in
       made_create c.args.hosts.now _ _ state (from_closed _ _ state c.requires.closed at) (later_onward _ _ on) c.args.host (answers.Created c.args.host) cluster on (c.is_member.ensures.0 c.if-not-is_member.false) refl
-      (made_stage cluster c.args.host c.in_ok-member.ensures named.0 named.1 c.new.ensures.items refl)
-      (opened_on_disk cluster c.in-Ok.store [] _ refl c.new.ensures.items refl c.in-Ok.ensures.made);
+      (made_stage cluster c.args.host c.in_ok-member.ensures named.0 named.1 refl)
+      (opened_on_disk cluster c.in-Ok.store [] _ refl c.empty.ensures refl c.in-Ok.ensures.made);
   later = later_onward _ _ c.make_store.ensures.onward;
 }
 

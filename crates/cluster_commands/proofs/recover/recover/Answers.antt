@@ -1,4 +1,6 @@
-use Rattle.std.proofs.Common.{Err, ap, refl, sym, ◌∙◌}
+use Rattle.std.proofs.Common.{Err, ap, refl, sym, ◌∙◌, subst}
+use Rattle.cache_model.specs.Change.{changes_of}
+use Rattle.partition_map.specs.After.{AgreesWith}
 use Rattle.script_lines.specs.declared.answer.Answer.TheVariants as answers
 use Rattle.disk_trait.proofs.Runs.{later_onward}
 use Rattle.cluster_commands.proofs.CommandLemmas.{from_closed, to_closed, settled_closed, restarted_after, count_after, rose_later, not_member_recover, opened_recover, broken_recover, refused_recover, opened_on_disk, finds_as, newest_as}
@@ -18,14 +20,20 @@ pub returns-in-Ok-clause-carried : goal.returns-in-Ok-clause-carried
 returns-in-Ok-clause-carried g c = record {
   step = λ state at.
       let settled = settled_closed _ _ c.requires.closed c.requires.ready in
-      let loaded = c.in-Ok.ensures in
+      let held = c.in-Ok.ensures.opened in
       let made = c.opened_at.ensures in
-      opened_recover c.args.hosts.now _ _ state (from_closed _ _ state c.requires.closed at) settled.0 settled.1 c.load_newest.ensures.onward c.args.host (answers.Recovered 1 c.args.host 1) c.opened_at.result
-      (c.is_member.ensures.0 c.if-not-is_member.false) refl (made.host ∙ c.in_ok-member.ensures) made.sound (newest_as (g.D.Disk.view c.args.disk.now) c.opened_at.result c.in-Ok.loaded.store made.store (λ tells. (loaded.read tells).newest))
-      (finds_as (g.D.Disk.view c.args.disk.now) c.opened_at.result c.in-Ok.loaded.store c.in-Ok.loaded.mutations.items made.store made.mutations loaded.contents)
-      (opened_on_disk c.opened_at.result c.in-Ok.loaded.store c.in-Ok.loaded.mutations.items _ made.store made.mutations made.sound loaded.opened);
+      opened_recover c.args.hosts.now _ _ state (from_closed _ _ state c.requires.closed at) settled.0 settled.1 c.load_newest.ensures.onward c.args.host (answers.Recovered 1 c.args.host 1) c.opened_at.result (changes_of held.mutations)
+      (c.is_member.ensures.0 c.if-not-is_member.false) refl (made.host ∙ c.in_ok-member.ensures) made.sound (newest_as (g.D.Disk.view c.args.disk.now) c.opened_at.result c.in-Ok.loaded.store made.store (λ tells. (held.so.read tells).newest))
+      (finds_as (g.D.Disk.view c.args.disk.now) c.opened_at.result c.in-Ok.loaded.store (changes_of held.mutations) made.store held.so.contents)
+      (opened_on_disk c.opened_at.result c.in-Ok.loaded.store held.mutations _ made.store (subst (AgreesWith (changes_of held.mutations)) (sym made.contents) held.agrees) made.sound held.so.opened);
   later = later_onward _ _ c.load_newest.ensures.onward;
 }
+
+pub returns-in-Ok-clause-ready : goal.returns-in-Ok-clause-ready
+returns-in-Ok-clause-ready g c =
+    let held = c.in-Ok.ensures.opened in
+    let made = c.opened_at.ensures in
+    (changes_of held.mutations, opened_on_disk c.opened_at.result c.in-Ok.loaded.store held.mutations _ made.store (subst (AgreesWith (changes_of held.mutations)) (sym made.contents) held.agrees) made.sound held.so.opened)
 
 pub returns-in_default-clause-broken : goal.returns-in_default-clause-broken
 returns-in_default-clause-broken g c = record {

@@ -1,3 +1,4 @@
 pub mod NewestLemmas
 pub mod SearchLemmas
 pub mod ClearingLemmas
+pub mod ChoiceLemmas

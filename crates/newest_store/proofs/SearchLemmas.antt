@@ -17,25 +17,10 @@ use Rattle.store_journal.specs.declared.fault.LoadFault.{LoadFault}
 use Rattle.store_journal.specs.declared.fault.LoadFault.TheVariants as faults
 use Rattle.store_journal.specs.declared.store.Store.{Store}
 use Rattle.newest_store.specs.Newest.{IsHeaded, HasStore, IsNewest, IsNewestStore, IsOpened}
-use Rattle.newest_store.specs.Search.{fault_in, IsHeaderReadFault, IsSearchFault, IsOpeningFault, IsNewestLoaded}
+use Rattle.newest_store.specs.Search.{fault_in, IsSearchFault, IsOpeningFault, IsNewestLoaded}
 use Rattle.newest_store.specs.declared.fault.NewestFault.{NewestFault}
 use Rattle.newest_store.specs.declared.fault.NewestFault.TheVariants.{NoStore, Damaged, Failed, NoMemory}
 use Rattle.newest_store.proofs.NewestLemmas.{file_cases, identified_is_headed, undamaged}
-
--- the second header can't be judged
-pub second_fails : (a b c : View) (found : Option StoreId) (fault : NewestFault) → OnlyReads a b → (Tells a → IsIdentified (a.seen 0) found) → IsHeaderReadFault b c 1 fault → IsSearchFault a c fault
-second_fails a b c found NoStore reads told is = absurd is
-second_fails a b c found (Damaged file offset) reads told is = (
-  omega (arith, is.0),
-  λ tells. (
-    subst (λ (l : List ℕ). IsUnidentifiedAt l offset) (ap b.seen (sym is.0) ∙ reads.same.seen file) (is.1 (reads.onward.tells tells)),
-    λ f less.
-        let zero : 0 ≡ f = omega (arith, less, is.0) in
-        subst (λ (k : ℕ). IsHeaded (a.seen k)) zero (identified_is_headed (a.seen 0) found (told tells)),
-  ),
-)
-second_fails a b c found Failed reads told is = λ below. let rose = is below in omega (arith, reads.onward.faults, rose)
-second_fails a b c found NoMemory reads told is = λ spares. is (reads.onward.spares spares)
 
 -- each that is sealed has a header
 pub both_headed : (a b : View) (first second : Option StoreId) → OnlyReads a b → (Tells a → IsIdentified (a.seen 0) first) → (Tells b → IsIdentified (b.seen 1) second) → Tells a → (f : ℕ) → f ≤ 1 → IsHeaded (a.seen f)

@@ -1,3 +1,5 @@
 pub mod Newest
+pub mod NewestOpened
 pub mod Search
 pub mod Clearing
+pub mod Choice

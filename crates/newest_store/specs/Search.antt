@@ -34,13 +34,6 @@ newer_of (Some first) None = Some 0
 newer_of None (Some second) = Some 1
 newer_of None None = None
 
--- why a file's header wasn't read as one
-abbrev pub IsHeaderReadFault : View → View → ℕ → NewestFault → Type 0
-IsHeaderReadFault old new file NoStore = ⊥
-IsHeaderReadFault old new file (Damaged other offset) = (other ≡ file) × (Tells old → IsUnidentifiedAt (old.seen file) offset)
-IsHeaderReadFault old new file Failed = Rose old.faults new.faults
-IsHeaderReadFault old new file NoMemory = old.spares → ⊥
-
 -- why no file is the newest
 abbrev pub IsSearchFault : View → View → NewestFault → Type 0
 IsSearchFault old new NoStore = Tells old → (file : ℕ) → file ≤ 1 → IsUnsealed (old.seen file)

@@ -1,16 +1,18 @@
 // Which file is the newest, and what its store has. Nothing is written here.
 ghost use Rattle.std.specs.Prelude.{◌≡◌, ℕ, ◌≤◌, IfOk, IfErr, MatchOption};
 ghost use Rattle.disk_trait.specs.View.{Image, View, Tells};
+ghost use Rattle.store_journal.specs.ContentsOf.{HasContentsOf};
 ghost use Rattle.store_journal.specs.Created.{IsUnsealed};
 ghost use Rattle.store_journal.specs.Loading.{IsIdentified, OnlyReads};
 ghost use Rattle.newest_store.specs.Newest.{IsHeaded, IsNewest};
-ghost use Rattle.newest_store.specs.Search.{newer_of, IsHeaderReadFault, IsSearchFault, IsOpeningFault, IsNewestLoaded};
+ghost use Rattle.newest_store.specs.Search.{newer_of, IsSearchFault, IsOpeningFault, IsNewestLoaded};
 
+use crate::choice::{Choice, ChoiceFault, newest_on};
 use crate::fault::{NewestFault, fault_in};
 use disk_trait::Disk;
 use std::alloc::Global;
 use store_ident::StoreId;
-use store_journal::{Loaded, Store, identify};
+use store_journal::{Loaded, Store};
 
 /// Loads the store of the newest file.
 #[tactic(auto, using(crate::proofs::SearchLemmas::search_fails))]
@@ -20,7 +22,7 @@ pub(crate) fn load_found<D: Disk>(
     partition: u16,
     partitions: u16,
 ) -> Result<Loaded, NewestFault>
-    ensures loaded { IfOk result (λ loaded. IsNewestLoaded (D.view disk.old) (D.view disk.new) partition partitions loaded.store loaded.mutations.items) }
+    ensures loaded { IfOk result (λ loaded. HasContentsOf (IsNewestLoaded (D.view disk.old) (D.view disk.new) partition partitions loaded.store) loaded.contents) }
     ensures refused { IfErr result (λ fault. IsOpeningFault (D.view disk.old) (D.view disk.new) partition partitions fault) }
     ensures reads_only { OnlyReads (D.view disk.old) (D.view disk.new) }
 {
@@ -32,7 +34,6 @@ pub(crate) fn load_found<D: Disk>(
 }
 
 /// Judges both headers, and finds which file is the newest.
-#[tactic(auto, using(crate::proofs::SearchLemmas::second_fails))]
 fn find_newest<D: Disk>(disk: &mut D) -> Result<u8, NewestFault>
     ensures one_of_two { IfOk result (λ file. file ≤ 1) }
     ensures newest { IfOk result (λ file. Tells (D.view disk.old) → IsNewest (D.view disk.old).seen file) }
@@ -40,21 +41,12 @@ fn find_newest<D: Disk>(disk: &mut D) -> Result<u8, NewestFault>
     ensures refused { IfErr result (λ fault. IsSearchFault (D.view disk.old) (D.view disk.new) fault) }
     ensures reads_only { OnlyReads (D.view disk.old) (D.view disk.new) }
 {
-    let first = identify_in(disk, 0)?;
-    let second = identify_in(disk, 1)?;
-    newer(first, second).ok_or(NewestFault::NoStore)
-}
-
-/// Finds which store stands in a file.
-fn identify_in<D: Disk>(disk: &mut D, file: u8) -> Result<Option<StoreId>, NewestFault>
-    requires file { file ≤ 1 }
-    ensures told { IfOk result (λ found. Tells (D.view disk.old) → IsIdentified ((D.view disk.old).seen file) found) }
-    ensures refused { IfErr result (λ fault. IsHeaderReadFault (D.view disk.old) (D.view disk.new) file fault) }
-    ensures reads_only { OnlyReads (D.view disk.old) (D.view disk.new) }
-{
-    match identify(disk, file) {
-        Ok(found) => Ok(found),
-        Err(fault) => Err(fault_in(file, fault)),
+    match newest_on(disk, 0) {
+        Ok(Choice::One { file, .. }) => Ok(file),
+        Ok(Choice::NoStore) => Err(NewestFault::NoStore),
+        Err(ChoiceFault::Failed { .. }) => Err(NewestFault::Failed),
+        Err(ChoiceFault::Damaged { file, at, .. }) => Err(NewestFault::Damaged { file, at }),
+        Err(ChoiceFault::NoMemory) => Err(NewestFault::NoMemory),
     }
 }
 

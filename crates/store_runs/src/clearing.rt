@@ -1,7 +1,7 @@
 //! Both files of a partition made free of a store, on a disk in memory that fails at one changing call.
 use crate::fixtures::{
-    ERASED, FIRST, File, MAGIC, NONE, ONE, Plan, SECOND, TWO, VALUE, VERSION, disk_of, expect_same,
-    newest_of,
+    ERASED, FIRST, File, MAGIC, NONE, ONE, Plan, SECOND, TWO, VALUE, VERSION, disk_of,
+    expect_entries, expect_same, newest_of,
 };
 use disk_trait::{Disk, DiskRefusal};
 use newest_store::{NewestFault, clear_stores};
@@ -140,7 +140,7 @@ fn expect_created(rt: &impl Abort, alloc: Global, case: &str, files: (File, File
     expect_same(rt, case, store.end, 41);
     let loaded = newest_of(alloc, &mut disk).expect(rt, case);
     expect_same(rt, case, loaded.store.id, store.id);
-    expect_same(rt, case, loaded.mutations.len(), 0);
+    expect_entries(rt, alloc, case, &loaded.contents, &[]);
 }
 
 #[test]

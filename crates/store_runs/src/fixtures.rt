@@ -1,10 +1,11 @@
 //! Mutations, stores and disks that several tests start from.
-ghost use Rattle.record_form.specs.GroupText.{HasPairs};
+ghost use Rattle.cache_model.specs.PlainList.{HasPairs};
 
-use cache_key::{CacheName, Key, Mutation, Pairs, Value};
+use cache_key::{CacheName, Key, Mutation, Pairs, Reply, Request, Value};
 use disk_memory::{DiskPlan, MemoryDisk};
 use disk_trait::{Disk, write_synced};
 use newest_store::{NewestFault, load_newest};
+use partition_map::PartitionMap;
 use record_form::Header;
 use std::alloc::Global;
 use std::fmt::Debug;
@@ -160,19 +161,25 @@ pub(crate) fn expect_tags(
     }
 }
 
-// The mutations are so many puts of this value.
-pub(crate) fn expect_puts(
+// A key with its value.
+pub(crate) type Entry = (&'static str, &'static str);
+
+// Cache c has these entries, and no other.
+pub(crate) fn expect_entries(
     rt: &impl Abort,
     alloc: Global,
     case: &str,
-    mutations: &[Mutation],
-    count: usize,
-    value: &str,
+    contents: &PartitionMap,
+    entries: &[Entry],
 ) {
-    let want = put(rt, alloc, value);
-    expect_same(rt, case, mutations.len(), count);
-    for mutation in mutations {
-        expect_same(rt, case, mutation, &want);
+    let size = Request::Size(cache(rt, alloc));
+    let count = contents.answer(alloc, &size).expect(rt, case);
+    expect_same(rt, case, count, Reply::Count(entries.len() as u64));
+    for (name, text) in entries {
+        let get = Request::Get(cache(rt, alloc), key(rt, alloc, name));
+        let found = contents.answer(alloc, &get).expect(rt, case);
+        let want = value(rt, alloc, text);
+        expect_same(rt, case, found, Reply::Value(Some(want)));
     }
 }
 

@@ -1,8 +1,6 @@
 //! Groups of mutations of every kind, encoded and decoded.
 use crate::fixtures::{TAGS, expect_same, expect_tags, mutation};
-use record_form::{
-    Group, GroupRefusal, MOST_GROUP_BYTES, RecordFault, decode_group, encode_tail, growth,
-};
+use record_form::{Group, GroupRefusal, RecordFault, decode_group, encode_tail, growth};
 use std::alloc::Global;
 use std::process::Abort;
 
@@ -93,18 +91,12 @@ fn a_group_has_its_tail(rt: HostRuntime) {
     }
 }
 
-// What the payload is decoded as. No payload here is too long for a group.
-fn decoded(rt: &impl Abort, alloc: Global, payload: &[u8]) -> Result<Group, RecordFault> {
-    assert!(rt; payload.len() <= MOST_GROUP_BYTES, "a long payload");
-    decode_group(alloc, payload)
-}
-
 #[test]
 fn a_group_is_decoded_of_its_payload(rt: HostRuntime) {
     for (case, first, others, end, tail) in TAILS {
         let payload = tail.get(4..*end).expect(&rt, case);
         let want = group_of(&rt, rt.alloc(), *first, others);
-        let group = decoded(&rt, rt.alloc(), payload).expect(&rt, case);
+        let group = decode_group(rt.alloc(), payload).expect(&rt, case);
         expect_same(&rt, case, group.size(), want.size());
         expect_same(&rt, case, group.mutations(), want.mutations());
         expect_same(&rt, case, group.into_mutations(), want.into_mutations());
@@ -245,7 +237,72 @@ const NO_GROUPS: &[(&str, &[u8], RecordFault)] = &[
 #[test]
 fn a_payload_is_refused_at_its_first_fault(rt: HostRuntime) {
     for (case, payload, want) in NO_GROUPS {
-        let fault = decoded(&rt, rt.alloc(), payload).err();
+        let fault = decode_group(rt.alloc(), payload).err();
+        expect_same(&rt, case, fault, Some(*want));
+    }
+}
+
+// So many batches of 64 pairs each, with values of 65,536 bytes: two of them are too long for a group.
+fn batches(rt: &impl Abort, alloc: Global, count: u8) -> Vec<u8> {
+    let value = vec![in alloc; b'v'; 65_536].expect(rt, "a value");
+    let mut payload = Vec::new(alloc);
+    payload.push(count).expect(rt, "its count");
+    for _ in 0..count {
+        payload
+            .extend_from_slice(b"\x06\x01c\x40")
+            .expect(rt, "a batch");
+        for _ in 0..64 {
+            payload
+                .extend_from_slice(b"\x00\x01a\x00\x01\x00\x00")
+                .expect(rt, "a pair");
+            payload
+                .extend_from_slice(value.as_slice())
+                .expect(rt, "its value");
+        }
+    }
+    payload
+}
+
+// Payloads of more than 8,388,608 bytes: what stands at an offset, unless it stays, and the fault.
+const LONG_PAYLOADS: &[(&str, usize, Option<u8>, RecordFault)] = &[
+    ("mutations", 0, None, RecordFault::Range(8_388_608)),
+    (
+        "a third one promised",
+        0,
+        Some(3),
+        RecordFault::Range(8_388_608),
+    ),
+    (
+        "another tag in it",
+        4_194_757,
+        Some(7),
+        RecordFault::Tag(4_194_757),
+    ),
+    (
+        "a bad byte before the limit",
+        8_388_607,
+        Some(b'\xff'),
+        RecordFault::Name(8_388_607),
+    ),
+    (
+        "a bad byte at the limit",
+        8_388_608,
+        Some(b'\xff'),
+        RecordFault::Range(8_388_608),
+    ),
+];
+
+#[test]
+fn a_payload_past_the_limit_is_refused_there(rt: HostRuntime) {
+    for (case, offset, byte, want) in LONG_PAYLOADS {
+        let mut payload = batches(&rt, rt.alloc(), 2);
+        if let Some(byte) = byte {
+            match payload.get_mut(*offset) {
+                Some(there) => *there = *byte,
+                None => assert!(rt; false, "{case}"),
+            }
+        }
+        let fault = decode_group(rt.alloc(), payload.as_slice()).err();
         expect_same(&rt, case, fault, Some(*want));
     }
 }

@@ -1,7 +1,7 @@
 //! The newest of two stores on a disk in memory, after a restart.
 use crate::fixtures::{
     ERASED, FIRST, File, GATE, HALF, MAGIC, NONE, ONE, PARTITION, Plan, SEAL, SECOND, TWO, VALUE,
-    VERSION, disk_of, expect_puts, expect_same, newest_of,
+    VERSION, disk_of, expect_entries, expect_same, newest_of,
 };
 use disk_memory::MemoryDisk;
 use newest_store::NewestFault;
@@ -31,7 +31,7 @@ fn expect_opened(
     expect_same(rt, case, loaded.store.file, file);
     expect_same(rt, case, loaded.store.id.version, version);
     expect_same(rt, case, loaded.store.end, 58);
-    expect_puts(rt, alloc, case, loaded.mutations.as_slice(), 1, value);
+    expect_entries(rt, alloc, case, &loaded.contents, &[("a", value)]);
     expect_seals(rt, case, disk, file == 0, file == 1);
 }
 

@@ -1,6 +1,6 @@
 //! One store over a host that keeps one file in memory.
 use crate::fixtures::{
-    File, HALF, HEADER, ID, SEAL, TAGS, WHOLE, bytes_of, expect_puts, expect_same, expect_tags, put,
+    Entry, File, HALF, HEADER, ID, SEAL, WHOLE, bytes_of, expect_entries, expect_same, put,
 };
 use disk_trait::{Disk, DiskRefusal};
 use record_form::{Group, encode_tail};
@@ -144,28 +144,27 @@ fn load_of(
     Store::load(alloc, &mut disk, 0, partition, partitions)
 }
 
-// The bytes of that store with its record once more.
+// The bytes of that store with a record more, which puts 2 at the same key.
 const TWICE: &[u8] =
     b"\x01PST1\x00\x01\x00\x00\x00\x00\x00\x00\x00\x00\x00\x01\x00\x00\x00\x00\x00\x00\x00\x01\
 \x00\x00\x00\x01\x00\x00\x00\x00\x00\x00\x00\x00\x00\x00\x00\x00\x01\x00\x00\x00\x0c\x01\x01\x01c\x00\x01a\
-\x00\x00\x00\x011\x01\x00\x00\x00\x0c\x01\x01\x01c\x00\x01a\x00\x00\x00\x011\x00";
+\x00\x00\x00\x011\x01\x00\x00\x00\x0c\x01\x01\x01c\x00\x01a\x00\x00\x00\x012\x00";
 
-// How many puts a store has, and where it ends.
-const LOADED: &[(&str, File, usize, u64)] = &[
-    ("one record", (WHOLE, SEAL, 1), 1, 58),
-    ("two records", (TWICE, SEAL, 1), 2, 75),
-    ("a record following a closed gate", (WHOLE, 41, 0), 0, 41),
+// What a store has, and where it ends.
+const LOADED: &[(&str, File, &[Entry], u64)] = &[
+    ("one record", (WHOLE, SEAL, 1), &[("a", "1")], 58),
+    ("two records", (TWICE, SEAL, 1), &[("a", "2")], 75),
+    ("a record following a closed gate", (WHOLE, 41, 0), &[], 41),
 ];
 
 #[test]
 fn a_store_is_loaded(rt: HostRuntime) {
-    for (case, file, count, end) in LOADED {
+    for (case, file, entries, end) in LOADED {
         let loaded = load_of(&rt, rt.alloc(), *file, 0, 1).expect(&rt, case);
         expect_same(&rt, case, loaded.store.file, 0);
         expect_same(&rt, case, loaded.store.id, ID);
         expect_same(&rt, case, loaded.store.end, *end);
-        let mutations = loaded.mutations.as_slice();
-        expect_puts(&rt, rt.alloc(), case, mutations, *count, "1");
+        expect_entries(&rt, rt.alloc(), case, &loaded.contents, entries);
     }
 }
 
@@ -213,8 +212,8 @@ const EACH: &[u8] =
 fn a_group_is_loaded_in_its_order(rt: HostRuntime) {
     let loaded = load_of(&rt, rt.alloc(), (EACH, SEAL, 1), 0, 1).expect(&rt, "a store");
     expect_same(&rt, "its end", loaded.store.end, 93);
-    let mutations = loaded.mutations.as_slice();
-    expect_tags(&rt, rt.alloc(), "each tag", mutations, TAGS);
+    let entries = &[("a", "1"), ("b", "2")];
+    expect_entries(&rt, rt.alloc(), "each tag", &loaded.contents, entries);
 }
 
 // An offset of that store, another byte there, and the offset of the damage.

@@ -2,10 +2,11 @@ use Rattle.std.proofs.Common.{◌≡◌, ◌⊎◌, sym, ◌∙◌, subst}
 use Rattle.std.proofs.lemmas.Result.{err_from_is_err_and}
 use Rattle.newest_store.specs.declared.fault.NewestFault.{NewestFault}
 use Rattle.newest_store.specs.declared.fault.NewestFault.TheVariants.{Failed, NoMemory}
+use Rattle.store_journal.proofs.ContentsLemmas.{contents_as}
 use Rattle.newest_store.proofs.NewestLemmas.{store_contents, newest_undamaged}
 use Rattle.newest_store.proofs.SearchLemmas.{reads_told, clear_told, whole_is_found, newest_loaded, one_is_left}
 use Rattle.newest_store.proofs.ClearingLemmas.{while_loaded, while_older, erasing_survives, erasing_unsealed}
-use Rattle.newest_store.proofs.newest.load_newest.Goals as goal
+use Rattle.newest_store.proofs.opening.load_newest.Goals as goal
 
 pub returns-in_err-loaded-clause-whole : goal.returns-in_err-loaded-clause-whole
 returns-in_err-loaded-clause-whole g c file id changes fault is now tells =
@@ -22,10 +23,10 @@ pub returns-in_err-loaded-clause-spoiled : goal.returns-in_err-loaded-clause-spo
 returns-in_err-loaded-clause-spoiled g c file at tells damaged = (c.load_found.ensures.reads_only.same, c.load_found.ensures.reads_only.moments)
 
 pub returns-in_err-clear-clause-spoiled : goal.returns-in_err-clear-clause-spoiled
-returns-in_err-clear-clause-spoiled g c file at tells damaged = absurd (newest_undamaged _ _ _ _ _ file at (newest_loaded _ _ _ _ _ _ c.in_ok-loaded.ensures.loaded tells) damaged)
+returns-in_err-clear-clause-spoiled g c file at tells damaged = absurd (newest_undamaged _ _ _ _ _ file at (newest_loaded _ _ _ _ _ _ c.in_ok-loaded.ensures.loaded.so tells) damaged)
 
 pub returns-clause-spoiled : goal.returns-clause-spoiled
-returns-clause-spoiled g c file at tells damaged = absurd (newest_undamaged _ _ _ _ _ file at (newest_loaded _ _ _ _ _ _ c.in_ok-loaded.ensures.loaded tells) damaged)
+returns-clause-spoiled g c file at tells damaged = absurd (newest_undamaged _ _ _ _ _ file at (newest_loaded _ _ _ _ _ _ c.in_ok-loaded.ensures.loaded.so tells) damaged)
 
 pub returns-in_err-loaded-clause-survives : goal.returns-in_err-loaded-clause-survives
 returns-in_err-loaded-clause-survives g c file id changes now = erasing_survives _ _ _ _ file id changes (returns-in_err-loaded-clause-moments g c) now
@@ -38,7 +39,7 @@ returns-in_err-loaded-clause-told g c = λ tells. reads_told _ _ c.load_found.en
 
 pub returns-in_err-clear-clause-moments : goal.returns-in_err-clear-clause-moments
 returns-in_err-clear-clause-moments g c =
-    while_older _ _ _ _ _ _ _ c.requires.first c.requires.second c.load_found.ensures.reads_only c.in_ok-loaded.ensures.loaded c.clear.ensures.moments c.clear.ensures.unsealed_moments
+    while_older _ _ _ _ _ _ _ c.requires.first c.requires.second c.load_found.ensures.reads_only c.in_ok-loaded.ensures.loaded.so c.clear.ensures.moments c.clear.ensures.unsealed_moments
 
 pub returns-in_err-clear-clause-survives : goal.returns-in_err-clear-clause-survives
 returns-in_err-clear-clause-survives g c file id changes now = erasing_survives _ _ _ _ file id changes (returns-in_err-clear-clause-moments g c) now
@@ -50,22 +51,19 @@ pub returns-in_err-clear-clause-told : goal.returns-in_err-clear-clause-told
 returns-in_err-clear-clause-told g c = λ tells. clear_told _ _ _ _ c.load_found.ensures.reads_only c.clear.ensures.moments tells
 
 pub returns-in_err-clear-clause-blank : goal.returns-in_err-clear-clause-blank
-returns-in_err-clear-clause-blank g c = λ tells none. let newest = c.in_ok-loaded.ensures.loaded.newest tells in absurd (none _ newest.one_of_two newest.sealed)
+returns-in_err-clear-clause-blank g c = λ tells none. let newest = c.in_ok-loaded.ensures.loaded.so.newest tells in absurd (none _ newest.one_of_two newest.sealed)
 
 pub returns-clause-opened : goal.returns-clause-opened
 returns-clause-opened g c =
-    one_is_left _ _ _ _ _ _ _ c.requires.first c.requires.second c.in_ok-loaded.ensures.loaded c.clear.ensures.moments c.in_ok-clear.ensures.cleared
-
-pub returns-clause-read : goal.returns-clause-read
-returns-clause-read g c = λ tells. newest_loaded _ _ _ _ _ _ c.in_ok-loaded.ensures.loaded tells
-
-pub returns-clause-contents : goal.returns-clause-contents
-returns-clause-contents g c file id changes now tells =
-    store_contents _ _ _ _ file id changes _ (returns-clause-read g c tells) (now _ tells)
+    contents_as _ _ _ (λ mutations is. record {
+      opened = one_is_left _ _ _ _ _ _ _ c.requires.first c.requires.second is c.clear.ensures.moments c.in_ok-clear.ensures.cleared;
+      read = λ tells. newest_loaded _ _ _ _ _ _ is tells;
+      contents = λ file id changes now tells. store_contents _ _ _ _ file id changes _ (newest_loaded _ _ _ _ _ _ is tells) (now _ tells);
+    }) c.in_ok-loaded.ensures.loaded
 
 pub returns-clause-moments : goal.returns-clause-moments
 returns-clause-moments g c =
-    while_older _ _ _ _ _ _ _ c.requires.first c.requires.second c.load_found.ensures.reads_only c.in_ok-loaded.ensures.loaded c.clear.ensures.moments c.clear.ensures.unsealed_moments
+    while_older _ _ _ _ _ _ _ c.requires.first c.requires.second c.load_found.ensures.reads_only c.in_ok-loaded.ensures.loaded.so c.clear.ensures.moments c.clear.ensures.unsealed_moments
 
 pub returns-clause-survives : goal.returns-clause-survives
 returns-clause-survives g c file id changes now = erasing_survives _ _ _ _ file id changes (returns-clause-moments g c) now
@@ -77,4 +75,4 @@ pub returns-clause-told : goal.returns-clause-told
 returns-clause-told g c = λ tells. clear_told _ _ _ _ c.load_found.ensures.reads_only c.clear.ensures.moments tells
 
 pub returns-clause-blank : goal.returns-clause-blank
-returns-clause-blank g c = λ tells none. let newest = c.in_ok-loaded.ensures.loaded.newest tells in absurd (none _ newest.one_of_two newest.sealed)
+returns-clause-blank g c = λ tells none. let newest = c.in_ok-loaded.ensures.loaded.so.newest tells in absurd (none _ newest.one_of_two newest.sealed)

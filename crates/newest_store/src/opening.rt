@@ -1,13 +1,15 @@
 // The newest store of a partition, opened.
 ghost use Rattle.std.specs.Prelude.{◌≡◌, ◌≢◌, ◌⊎◌, ℕ, ◌≤◌, List, IfOk, IsErrOf};
-ghost use Rattle.cache_model.specs.Change.{Change, changes_of};
+ghost use Rattle.cache_model.specs.Change.{Change};
 ghost use Rattle.disk_trait.specs.View.{Image, View, Tells};
 ghost use Rattle.disk_trait.specs.Calls.{Rose, Same};
 ghost use Rattle.disk_trait.specs.Moments.{Now, After, Throughout, Onward};
 ghost use Rattle.seal_gate.specs.Seal.{IsSettled};
 ghost use Rattle.store_ident.specs.declared.ident.StoreId.{StoreId};
+ghost use Rattle.store_journal.specs.ContentsOf.{HasContentsOf};
 ghost use Rattle.store_journal.specs.Created.{IsUnsealed};
-ghost use Rattle.newest_store.specs.Newest.{HasStore, IsNewestStore, IsOpened, IsDamagedIn};
+ghost use Rattle.newest_store.specs.Newest.{HasStore, IsDamagedIn};
+ghost use Rattle.newest_store.specs.NewestOpened.{IsNewestOpened};
 ghost use Rattle.newest_store.specs.Clearing.{ErasesOlder};
 ghost use Rattle.newest_store.specs.declared.fault.NewestFault.{NewestFault};
 ghost use Rattle.newest_store.specs.declared.fault.NewestFault.TheVariants.{NoStore, Damaged, Failed, NoMemory};
@@ -22,7 +24,7 @@ use store_journal::{Loaded, clear};
 ///
 /// The newest is the sealed file of greatest version, and of two with the same version the lower. The headers of both files
 /// are judged before the newest is read whole, and nothing is erased before that is whole. Takes memory for the whole file
-/// and for the mutations. Device calls: two reads, the load's, and for the other file those of `clear`.
+/// and for the contents. Device calls: two reads, the load's, and for the other file those of `clear`.
 pub fn load_newest<D: Disk>(
     alloc: Global,
     disk: &mut D,
@@ -33,10 +35,7 @@ pub fn load_newest<D: Disk>(
     requires second { IsSettled (D.view disk.old) 1 }
 
     // After Ok one store is left: the newest, with exactly what its file had, whatever the other file held.
-    ensures opened { IfOk result (λ loaded. IsOpened (D.view disk.new) partition partitions loaded.store loaded.mutations.items) }
-    ensures read { IfOk result (λ loaded. Tells (D.view disk.old) → IsNewestStore partition partitions loaded.store loaded.mutations.items (D.view disk.old).seen) }
-    ensures contents { IfOk result (λ loaded. (file : ℕ) (id : StoreId) (changes : List Change) → Now (D.view disk.old) (HasStore partition partitions file id changes) → Tells (D.view disk.old)
-        → (loaded.store.file ≡ file) × (loaded.store.id ≡ id) × (changes_of loaded.mutations.items ≡ changes)) }
+    ensures opened { IfOk result (λ loaded. HasContentsOf (IsNewestOpened (D.view disk.old) (D.view disk.new) partition partitions loaded.store) loaded.contents) }
 
     // The refusals. Files that have a store are refused only where the device fails or memory runs out.
     ensures failed { IsErrOf result Failed → Rose (D.view disk.old).faults (D.view disk.new).faults }

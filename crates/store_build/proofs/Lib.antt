@@ -1,0 +1,5 @@
+pub mod ItemLemmas
+pub mod BatchLemmas
+pub mod BuiltLemmas
+pub mod RecordLemmas
+mod BuildLemmas

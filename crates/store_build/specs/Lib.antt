@@ -1,0 +1,4 @@
+pub mod Batches
+pub mod Built
+pub mod Next
+pub mod OwnMemory

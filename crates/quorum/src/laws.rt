@@ -1,0 +1,16 @@
+//! What a verdict says, in terms of what the present hosts show: the contract of a function that does nothing.
+ghost use Rattle.std.specs.Prelude.{◌≡◌, ◌↔◌, ℕ, false, List, Some, None};
+ghost use Rattle.roster_form.specs.Membership.{Host, IsIn};
+ghost use Rattle.roster_form.specs.Choice.{Sighting, chosen_roster, is_back};
+ghost use Rattle.roster_form.specs.declared.roster.Roster.{Roster};
+ghost use Rattle.quorum.specs.Judged.{verdict_of, MayOpenAs};
+ghost use Rattle.quorum.specs.declared.verdict.Verdict.TheVariants.{Met, Short, NotCreated};
+
+/// The verdict is met exactly where the present hosts may open the cluster, is not created exactly where none shows a
+/// roster, and names exactly the recorded hosts that aren't back. Does nothing.
+pub fn verdict_is_exact()
+    ensures met { (sightings : List Sighting) (epoch : ℕ) (hosts : List Host) → verdict_of sightings ≡ Met epoch hosts ↔ MayOpenAs sightings epoch hosts }
+    ensures none { (sightings : List Sighting) → verdict_of sightings ≡ NotCreated ↔ ((each : Sighting) → IsIn each sightings → each.shown ≡ None) }
+    ensures missing { (sightings : List Sighting) (hosts : List Host) → verdict_of sightings ≡ Short hosts
+        → (roster : Roster) × (chosen_roster sightings ≡ Some roster) × ((host : Host) → IsIn host hosts ↔ (IsIn host roster.hosts × (is_back roster sightings host ≡ false))) }
+{}

@@ -1,0 +1,5 @@
+pub mod NamesLemmas
+pub mod RosterTextLemmas
+pub mod ShownLemmas
+pub mod PassLemmas
+pub mod SuccessionLemmas

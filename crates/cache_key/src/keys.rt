@@ -1,5 +1,6 @@
 //! Keys and values: UTF-8 text with a limit.
-ghost use Rattle.std.specs.Prelude.{◌≡◌, ℕ, ◌<◌, ◌≤◌, ◌↔◌, [], length, IfOk, OnOk, IsErrOf};
+ghost use Rattle.std.specs.Prelude.{◌≡◌, ◌≢◌, ℕ, ◌<◌, ◌≤◌, ◌↔◌, [], length, IfOk, OnOk, IsErrOf};
+ghost use Rattle.std.specs.String.{string_bytes};
 ghost use Rattle.cache_key.specs.Names.{most_key_bytes, most_value_bytes, IsKey, IsValue};
 
 use crate::fault::NameFault;
@@ -65,5 +66,23 @@ impl Text<Values> {
             return Err(NameFault::Long);
         }
         Ok(Text::over(String::from_str(alloc, text)?))
+    }
+
+    /// Makes a value of its text, which it takes over. It may be empty.
+    ///
+    /// Takes no memory. A text that is refused is dropped.
+    pub fn from_text(text: String) -> Result<Self, NameFault>
+        ensures ok { IfOk result (λ value. value ≡ string_bytes text) }
+        ensures limits { OnOk result (IsValue (string_bytes text)) }
+        ensures long { IsErrOf result NameFault.Long ↔ (most_value_bytes < length (string_bytes text)) }
+        ensures never_empty { ¬ IsErrOf result NameFault.Empty }
+        ensures no_bad_byte { (at : ℕ) → ¬ IsErrOf result (NameFault.BadByte at) }
+        ensures takes_no_memory { result ≢ Err NameFault.NoMemory }
+    {
+        if text.len() <= MOST_VALUE_BYTES {
+            Ok(Text::over(text))
+        } else {
+            Err(NameFault::Long)
+        }
     }
 }

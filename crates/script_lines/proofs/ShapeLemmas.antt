@@ -1,7 +1,6 @@
 -- Objects and lists are known by their members and items.
-use Rattle.std.proofs.Common.{◌≡◌, ℕ, ◌-◌, ◌≤◌, ◌⊎◌, List, [], ◌∷◌, length, get_or, take, drop, codes, Some, Option, Ordering, Less, Equal, Greater, string_bytes, string_cmp, nat_cmp, is_eq, refl, sym, ap, ◌∙◌, subst, inl, inr, arith}
+use Rattle.std.proofs.Common.{◌≡◌, ℕ, ◌⊎◌, List, [], ◌∷◌, length, get_or, codes, Some, Option, Ordering, Less, Equal, Greater, string_bytes, string_cmp, nat_cmp, is_eq, refl, sym, ap, ◌∙◌, subst, inl, inr, arith}
 use Rattle.std.proofs.lemmas.Cmp.{nat_list_cmp_total, tied_itself}
-use Rattle.std.proofs.lemmas.List.{take_rest}
 use Rattle.std.proofs.lemmas.Map.Text.{is_eq-slice_cmp}
 use Rattle.std.proofs.lemmas.Slice.Eq.{bytes_eq-Decides}
 use Rattle.std.specs.Cmp.Lexicographic.{slice_cmp}
@@ -159,17 +158,16 @@ two_items (x ∷ []) a b count at_0 at_1 = absurd (omega arith)
 two_items (x ∷ y ∷ []) a b count at_0 at_1 = cc
 two_items (x ∷ y ∷ z ∷ vs) a b count at_0 at_1 = absurd (omega arith)
 
-pub three_items : (vs : List Value) (a b c : Value) → length vs ≡ 3 → a ≡ get_or vs 0 a → b ≡ get_or vs 1 b → c ≡ get_or vs 2 c → items_view vs ≡ item (view a) (item (view b) (item (view c) no_items))
-three_items [] a b c count at_0 at_1 at_2 = absurd (omega arith)
-three_items (x ∷ []) a b c count at_0 at_1 at_2 = absurd (omega arith)
-three_items (x ∷ y ∷ []) a b c count at_0 at_1 at_2 = absurd (omega arith)
-three_items (x ∷ y ∷ z ∷ []) a b c count at_0 at_1 at_2 = cc
-three_items (x ∷ y ∷ z ∷ w ∷ vs) a b c count at_0 at_1 at_2 = absurd (omega arith)
+-- the same, the last item by its index
+pub two_items_last : (vs : List Value) (a d : Value) → length vs ≡ 2 → a ≡ get_or vs 0 a → items_view vs ≡ item (view a) (item (view (get_or vs 1 d)) no_items)
+two_items_last [] a d count at_0 = absurd (omega arith)
+two_items_last (x ∷ []) a d count at_0 = absurd (omega arith)
+two_items_last (x ∷ y ∷ []) a d count at_0 = cc
+two_items_last (x ∷ y ∷ z ∷ vs) a d count at_0 = absurd (omega arith)
 
--- the first item, and the ones after it
-pub first_and_others : (vs : List Value) (a : Value) → 1 ≤ length vs → a ≡ get_or vs 0 a → items_view vs ≡ item (view a) (items_view (take (length vs - 1) (drop 1 vs)))
-first_and_others vs a some at_0 = cut vs a some at_0 ∙ ap (λ ws. item (view a) (items_view ws)) (sym (take_rest vs 1))
-  where
-    cut : (vs : List Value) (a : Value) → 1 ≤ length vs → a ≡ get_or vs 0 a → items_view vs ≡ item (view a) (items_view (drop 1 vs))
-    cut [] a some at_0 = absurd (omega arith)
-    cut (x ∷ vs) a some at_0 = cc
+pub three_items_last : (vs : List Value) (a b d : Value) → length vs ≡ 3 → a ≡ get_or vs 0 a → b ≡ get_or vs 1 b → items_view vs ≡ item (view a) (item (view b) (item (view (get_or vs 2 d)) no_items))
+three_items_last [] a b d count at_0 at_1 = absurd (omega arith)
+three_items_last (x ∷ []) a b d count at_0 at_1 = absurd (omega arith)
+three_items_last (x ∷ y ∷ []) a b d count at_0 at_1 = absurd (omega arith)
+three_items_last (x ∷ y ∷ z ∷ []) a b d count at_0 at_1 = cc
+three_items_last (x ∷ y ∷ z ∷ w ∷ vs) a b d count at_0 at_1 = absurd (omega arith)

@@ -1,5 +1,8 @@
 //! Reading the pairs of an event.
-ghost use Rattle.serde_json.specs.View.{view};
+ghost use Rattle.serde_json.specs.View.{view, items_view};
+ghost use Rattle.serde_json.specs.Data.{array};
+ghost use Rattle.std.specs.Prelude.{◌≤◌, length};
+ghost use Rattle.cache_key.specs.Names.{most_pairs};
 ghost use Rattle.script_lines.specs.Reading.{Reads, IsPairOf, ArePairsOf};
 
 use crate::fault::LineFault;
@@ -13,10 +16,10 @@ use std::alloc::Global;
 const LEAST_PAIRS: usize = 1;
 
 /// The pairs of a list, in their order. The event's number, from 1, is for the reason of a fault.
-pub(crate) fn pairs_of(alloc: Global, value: &Json, event: usize) -> Result<Pairs, LineFault>
-    ensures { Reads (ArePairsOf (view value.now)) result }
+pub(crate) fn pairs_of(alloc: Global, value: Json, event: usize) -> Result<Pairs, LineFault>
+    ensures { Reads (ArePairsOf (view value)) result }
 {
-    let Some(items) = value.as_array() else {
+    let Json::Array(items) = value else {
         return Err(LineFault::Form {
             reason: LineReason::NotList {
                 part: Part::Pairs { event },
@@ -29,9 +32,19 @@ pub(crate) fn pairs_of(alloc: Global, value: &Json, event: usize) -> Result<Pair
             reason: LineReason::PairCount { event, count },
         });
     }
+    listed_pairs(alloc, items, event)
+}
+
+/// The pairs of the items of a list.
+fn listed_pairs(alloc: Global, items: Vec<Json>, event: usize) -> Result<Pairs, LineFault>
+    requires least { 1 ≤ length items.items }
+    requires most { length items.items ≤ most_pairs }
+    ensures { Reads (ArePairsOf (array (items_view items.items))) result }
+{
     let mut pairs = Pairs::new(alloc);
-    for (index, item) in items.iter().enumerate() {
-        let (key, value) = pair_of(alloc, item, event, index + 1)?;
+    for item in items {
+        let number = pairs.len() as usize + 1;
+        let (key, value) = pair_of(alloc, item, event, number)?;
         // there is room: only memory can be missing
         let Ok(()) = pairs.push(key, value) else {
             return Err(LineFault::NoMemory);
@@ -41,22 +54,18 @@ pub(crate) fn pairs_of(alloc: Global, value: &Json, event: usize) -> Result<Pair
 }
 
 /// The pair of a list. Its number and the event's, from 1, are for the reason of a fault.
-fn pair_of(
-    alloc: Global,
-    value: &Json,
-    event: usize,
-    pair: usize,
-) -> Result<(Key, Value), LineFault>
-    ensures { Reads (IsPairOf (view value.now)) result }
+fn pair_of(alloc: Global, value: Json, event: usize, pair: usize) -> Result<(Key, Value), LineFault>
+    ensures { Reads (IsPairOf (view value)) result }
 {
-    let Some(items) = value.as_array() else {
+    let Json::Array(mut items) = value else {
         return Err(LineFault::Form {
             reason: LineReason::NotList {
                 part: Part::Pair { event, pair },
             },
         });
     };
-    let [key, value] = items.as_slice() else {
+    let items = items.as_mut_slice();
+    let [key, _] = &*items else {
         return Err(LineFault::Form {
             reason: LineReason::PairItemCount {
                 event,
@@ -66,6 +75,6 @@ fn pair_of(
         });
     };
     let key = key_of(alloc, key, Part::PairKey { event, pair })?;
-    let value = value_of(alloc, value, Part::PairValue { event, pair })?;
+    let value = value_of(items[1].take(), Part::PairValue { event, pair })?;
     Ok((key, value))
 }

@@ -26,7 +26,7 @@ pub fn read_line(alloc: Global, line: &[u8]) -> Result<Command, LineFault>
     ensures form { (reason : LineReason) → IsErrOf result (LineFault.Form reason) → HasNoForm line.now }
 {
     match Json::from_slice(alloc, line) {
-        Ok(value) => command_of(alloc, &value),
+        Ok(mut value) => command_of(alloc, &mut value),
         Err(error) => Err(json_fault(line, error)),
     }
 }
@@ -36,9 +36,9 @@ pub fn one_command()
     ensures { (line : List ℕ) (a b : Command) → IsLineOf line a → IsLineOf line b → a ≡ b }
 {}
 
-/// The command of an object.
-fn command_of(alloc: Global, value: &Json) -> Result<Command, LineFault>
-    ensures { Reads (IsCommandOf (view value.now)) result }
+/// The command of an object, from which it takes what it keeps.
+fn command_of(alloc: Global, value: &mut Json) -> Result<Command, LineFault>
+    ensures { Reads (IsCommandOf (view value.old)) result }
 {
     let Some(name) = value.get("do").and_then(Json::as_str) else {
         return Err(LineFault::Form {
@@ -48,7 +48,7 @@ fn command_of(alloc: Global, value: &Json) -> Result<Command, LineFault>
     match (name, member_count(value)) {
         ("create", 2) => create_of(alloc, member(value, name, "host")?),
         ("dump", 1) => Ok(Command::Dump),
-        ("steps", 2) => steps_of(alloc, member(value, name, "events")?),
+        ("steps", 2) => steps_of(alloc, taken(value, "steps", "events")?),
         ("stop", 1) => Ok(Command::Stop),
         ("recover", 2) => recover_of(alloc, member(value, name, "hosts")?),
         _ => Err(LineFault::Form {
@@ -65,8 +65,8 @@ fn create_of(alloc: Global, host: &Json) -> Result<Command, LineFault>
     })
 }
 
-fn steps_of(alloc: Global, events: &Json) -> Result<Command, LineFault>
-    ensures { Reads (IsCommandOf (object_of_two (codes "do") (string (codes "steps")) (codes "events") (view events.now))) result }
+fn steps_of(alloc: Global, events: Json) -> Result<Command, LineFault>
+    ensures { Reads (IsCommandOf (object_of_two (codes "do") (string (codes "steps")) (codes "events") (view events))) result }
 {
     Ok(Command::Steps {
         events: events_of(alloc, events)?,
@@ -88,6 +88,19 @@ fn member<'a>(value: &'a Json, command: &str, name: &str) -> Result<&'a Json, Li
 {
     match value.get(name) {
         Some(found) => Ok(found),
+        None => Err(LineFault::Form {
+            reason: command_reason(command, value),
+        }),
+    }
+}
+
+/// The same, taken out.
+fn taken(value: &mut Json, command: &str, name: &str) -> Result<Json, LineFault>
+    ensures ok { IfOk result (λ found. get name.now (view value.old) ≡ Some (view found)) }
+    ensures form { IfErr result (λ fault. IsOfForm fault × (get name.now (view value.old) ≡ None)) }
+{
+    match value.get_mut(name) {
+        Some(found) => Ok(found.take()),
         None => Err(LineFault::Form {
             reason: command_reason(command, value),
         }),

@@ -13,17 +13,17 @@ use std::alloc::Global;
 
 /// The request of a list: its name, the cache, and what the cache is asked. The event's number, from 1, is for the
 /// reason of a fault.
-pub(crate) fn request_of(alloc: Global, value: &Json, event: usize) -> Result<Request, LineFault>
-    ensures { Reads (IsRequestOf (view value.now)) result }
+pub(crate) fn request_of(alloc: Global, value: Json, event: usize) -> Result<Request, LineFault>
+    ensures { Reads (IsRequestOf (view value)) result }
 {
-    let Some(items) = value.as_array() else {
+    let Json::Array(mut items) = value else {
         return Err(LineFault::Form {
             reason: LineReason::NotList {
                 part: Part::Event { event },
             },
         });
     };
-    let [name, others @ ..] = items.as_slice() else {
+    let Some((name, others)) = items.split_first_mut() else {
         return Err(LineFault::Form {
             reason: LineReason::EmptyEvent { event },
         });
@@ -50,10 +50,10 @@ pub(crate) fn request_of(alloc: Global, value: &Json, event: usize) -> Result<Re
 fn asked(
     alloc: Global,
     name: EventName,
-    others: &[Json],
+    others: &mut [Json],
     event: usize,
 ) -> Result<Request, LineFault>
-    ensures { Reads (IsAsked name (items_view others.now)) result }
+    ensures { Reads (IsAsked name (items_view others.old)) result }
 {
     match name {
         EventName::Get => get_of(alloc, others, event),
@@ -74,15 +74,15 @@ fn get_of(alloc: Global, others: &[Json], event: usize) -> Result<Request, LineF
     Ok(Request::Get(cache, key))
 }
 
-fn put_of(alloc: Global, others: &[Json], event: usize) -> Result<Request, LineFault>
-    ensures { Reads (IsAsked EventName.Put (items_view others.now)) result }
+fn put_of(alloc: Global, others: &mut [Json], event: usize) -> Result<Request, LineFault>
+    ensures { Reads (IsAsked EventName.Put (items_view others.old)) result }
 {
-    let [cache, key, value] = others else {
+    let [cache, key, _] = &*others else {
         return Err(item_count(event, EventName::Put, others));
     };
     let cache = cache_of(alloc, cache, Part::Cache { event })?;
     let key = key_of(alloc, key, Part::Key { event })?;
-    let value = value_of(alloc, value, Part::Value { event })?;
+    let value = value_of(others[2].take(), Part::Value { event })?;
     Ok(Request::Put(cache, key, value))
 }
 
@@ -117,14 +117,14 @@ fn destroy_of(alloc: Global, others: &[Json], event: usize) -> Result<Request, L
     Ok(Request::Destroy(one_cache(alloc, EventName::Destroy, others, event)?))
 }
 
-fn put_all_of(alloc: Global, others: &[Json], event: usize) -> Result<Request, LineFault>
-    ensures { Reads (IsAsked EventName.PutAll (items_view others.now)) result }
+fn put_all_of(alloc: Global, others: &mut [Json], event: usize) -> Result<Request, LineFault>
+    ensures { Reads (IsAsked EventName.PutAll (items_view others.old)) result }
 {
-    let [cache, pairs] = others else {
+    let [cache, _] = &*others else {
         return Err(item_count(event, EventName::PutAll, others));
     };
     let cache = cache_of(alloc, cache, Part::Cache { event })?;
-    let pairs = pairs_of(alloc, pairs, event)?;
+    let pairs = pairs_of(alloc, others[1].take(), event)?;
     Ok(Request::PutAll(cache, pairs))
 }
 

@@ -74,17 +74,18 @@ pub(crate) fn key_of(alloc: Global, value: &Json, part: Part) -> Result<Key, Lin
     }
 }
 
-/// A value.
-pub(crate) fn value_of(alloc: Global, value: &Json, part: Part) -> Result<Value, LineFault>
-    ensures { Reads (IsTextOf IsValue (view value.now)) result }
+/// A value, which takes the text over. Takes no memory.
+pub(crate) fn value_of(value: Json, part: Part) -> Result<Value, LineFault>
+    ensures { Reads (IsTextOf IsValue (view value)) result }
 {
-    let Some(text) = value.as_str() else {
+    let Json::String(text) = value else {
         return Err(LineFault::Form {
             reason: LineReason::NotText { part },
         });
     };
-    match Value::of(alloc, text) {
+    match Value::from_text(text) {
         Ok(made) => Ok(made),
-        Err(fault) => Err(text_fault(fault, text, MOST_VALUE_BYTES, part)),
+        // it is too long: for that the reason needs no text
+        Err(fault) => Err(text_fault(fault, "", MOST_VALUE_BYTES, part)),
     }
 }

@@ -20,11 +20,11 @@ returns-in-dump-eq1 c =
     let at_do : get (codes "do") (view c.args.value.now) ≡ Some (string c.in-Some.name.now) = grind (arith, as_str-string) in
     record { is = one_named _ _ (codes "dump") _ at_do c.in-dump-eq1.is-dump-0 c.member_count.ensures.count c.in-dump-eq1.is-1; limits = tt }
 
-pub returns-in_ok-member-in-steps-eq2 : goal.returns-in_ok-member-in-steps-eq2
-returns-in_ok-member-in-steps-eq2 c =
+pub returns-in_ok-taken-in-steps-eq2 : goal.returns-in_ok-taken-in-steps-eq2
+returns-in_ok-taken-in-steps-eq2 c =
     let at_do : get (codes "do") (view c.args.value.now) ≡ Some (string c.in-Some.name.now) = grind (arith, as_str-string) in
     let shape =
-    two_named _ _ (codes "steps") (codes "events") _ _ at_do c.in-steps-eq2.is-steps-0 c.member_count.ensures.count c.in-steps-eq2.is-1 c.member_count.ensures.in_order refl c.in_ok-member-in-steps-eq2.ensures.ok in
+    two_named _ _ (codes "steps") (codes "events") _ _ at_do c.in-steps-eq2.is-steps-0 c.member_count.ensures.count c.in-steps-eq2.is-1 c.member_count.ensures.in_order refl c.in_ok-taken-in-steps-eq2.ensures.ok in
     subst (λ d. Reads (IsCommandOf d) c.steps_of.result) (sym shape) c.steps_of.ensures
 
 pub returns-in-stop-eq1 : goal.returns-in-stop-eq1

@@ -20,7 +20,7 @@ use std::alloc::Global;
 
 /// Reads a line of a script, without its line feed.
 ///
-/// Takes memory for the line's JSON value and for the command.
+/// Takes memory for the line's JSON value and for the command, whose values keep the texts of the JSON value without a copy.
 pub fn read_line(alloc: Global, line: &[u8]) -> Result<Command, LineFault>
     ensures ok { IfOk result (λ command. IsLineOf line.now command) }
     ensures form { (reason : LineReason) → IsErrOf result (LineFault.Form reason) → HasNoForm line.now }

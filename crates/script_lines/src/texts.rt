@@ -85,7 +85,7 @@ pub(crate) fn value_of(value: Json, part: Part) -> Result<Value, LineFault>
     };
     match Value::from_text(text) {
         Ok(made) => Ok(made),
-        // it is too long: for that the reason needs no text
+        // it is too long, and that reason shows nothing of the text
         Err(fault) => Err(text_fault(fault, "", MOST_VALUE_BYTES, part)),
     }
 }

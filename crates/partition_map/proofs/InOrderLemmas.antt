@@ -136,10 +136,10 @@ taken-full n list later is = sym (take-append_seam list later) ∙ ap (λ m. tak
 pub taken-none : {X : Type 0} (n : ℕ) (list : List X) → length list ≤ n → list ≡ take n (list ++ [])
 taken-none n list few = sym (take_all n list few) ∙ ap (take n) (sym (append-nil list))
 
--- a copied pair is added
-pub copied-more : (so_far new : Pairs) (key value key_copy value_copy : List ℕ) (rest all : Pairs) → so_far ++ (key, value) ∷ rest ≡ all → IsRising (keys_of all) → key_copy ≡ key → value_copy ≡ value → new ≡ insert_entry (slice_cmp nat_cmp) so_far key_copy value_copy → new ++ rest ≡ all
-copied-more so_far new key value key_copy value_copy rest all is rise key_is value_is inserted =
-    ap (λ t. t ++ rest) (inserted ∙ (λ i. insert_entry (slice_cmp nat_cmp) so_far (key_is i) (value_is i)) ∙ insert-last so_far key value so_far rest value refl (subst (λ (es : Pairs). IsRising (keys_of es)) (sym is) rise))
+-- a copied entry is added
+pub copied-more : {X : Type 0} (so_far new : List (List ℕ × X)) (key key_copy : List ℕ) (value value_copy : X) (rest all : List (List ℕ × X)) → so_far ++ (key, value) ∷ rest ≡ all → IsRising (keys_of all) → key_copy ≡ key → value_copy ≡ value → new ≡ insert_entry (slice_cmp nat_cmp) so_far key_copy value_copy → new ++ rest ≡ all
+copied-more {X = X} so_far new key key_copy value value_copy rest all is rise key_is value_is inserted =
+    ap (λ t. t ++ rest) (inserted ∙ (λ i. insert_entry (slice_cmp nat_cmp) so_far (key_is i) (value_is i)) ∙ insert-last so_far key value so_far rest value refl (subst (λ (es : List (List ℕ × X)). IsRising (keys_of es)) (sym is) rise))
     ∙ append_assoc so_far ((key, value) ∷ []) rest ∙ is
 
 -- ---- the plain list of one extent

@@ -166,6 +166,16 @@ impl Extent {
         Ok(())
     }
 
+    /// An equal one, hidden places too. Takes memory.
+    pub(crate) fn copy(&self, alloc: Global) -> Result<Self, AllocError>
+        ensures { IfOk result (λ copied. copied ≡ self.now) }
+    {
+        Ok(Extent {
+            present: self.present,
+            places: self.places.copy(alloc)?,
+        })
+    }
+
     /// Makes hidden places for the mutation, which is one of this cache. What is shown stays.
     pub(crate) fn ready(&mut self, mutation: &Mutation) -> Result<(), AllocError>
         ensures ready { OnOk result (IsAppliable (change_of mutation.now) self.new.places) }

@@ -6,7 +6,8 @@
 //!   specs/After.antt), that it is ready for a change (`IsReadyFor`, specs/Readiness.antt), and which items stand after one
 //!   (`items_after`, specs/Items.antt).
 //! Keeps: `apply` appends to the list; `ready` leaves the contents as they are, also after an error; a store of the
-//!   contents stays shorter than 2^48 bytes. A number, once given to a cache, stays its own.
+//!   contents stays shorter than 2^48 bytes. A number, once given to a cache, stays its own. A copy agrees with every list that the
+//!   map agrees with, and each goes on alone.
 //! Hides: that a place is made ready by an entry without a value, and that sums are kept.
 //! Not here: what an answer or the contents are after a list (cache_model); the store file (store_journal).
 //! Laws: none.
@@ -17,6 +18,7 @@
 #![tactic(auto)]
 
 mod change;
+mod copy;
 mod count;
 mod extent;
 mod item;

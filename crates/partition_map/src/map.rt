@@ -12,6 +12,7 @@ ghost use Rattle.partition_map.specs.Items.{items_after};
 ghost use Rattle.partition_map.specs.Order.{brings, extent_number};
 
 use crate::change::{change_extent, makes_present, named, number_name, ready_extent, room_for};
+use crate::copy::{copy_extents, copy_names};
 use crate::count::count_after_item;
 use crate::extent::Extent;
 use crate::item::LastItem;
@@ -96,6 +97,23 @@ impl PartitionMap {
         ensures { IfOk result (λ contents. (changes : List Change) → AgreesWith changes self.now → AreContentsAfter changes contents) }
     {
         Ok(Contents::of(copy_caches(alloc, &self.extents)?))
+    }
+
+    /// A map of the same contents, with the same numbers. A change of one leaves the other.
+    ///
+    /// Takes memory for a copy of every name, key and value.
+    pub fn copy(&self, alloc: Global) -> Result<Self, AllocError>
+        ensures agrees { IfOk result (λ copied. (changes : List Change) → AgreesWith changes self.now → AgreesWith changes copied) }
+        ensures contents { IfOk result (λ copied. caches_in copied.extents ≡ caches_in self.now.extents) }
+        ensures numbers { IfOk result (λ copied. copied.names ≡ self.now.names) }
+    {
+        Ok(PartitionMap {
+            extents: copy_extents(alloc, &self.extents)?,
+            names: copy_names(alloc, &self.names)?,
+            items: self.items,
+            bytes: self.bytes,
+            alloc,
+        })
     }
 
     /// The next items of the plain list after an item, or from its begin; at most so many.

@@ -11,6 +11,7 @@ ghost use Rattle.std.specs.Map.{keys_of};
 ghost use Rattle.cache_model.specs.PlainList.{puts_of};
 ghost use Rattle.partition_map.specs.Place.{value_at, HasPlace, KeepsPlaces, SameValues, pairs_shown, places_after, value_count, value_bytes};
 
+use crate::copy::copy_places;
 use cache_key::{CacheName, Key, Mutation, Value};
 use std::alloc::{AllocError, Global};
 use std::collections::BTreeMap;
@@ -115,6 +116,17 @@ impl Places {
         ensures { IfOk result (λ pairs. pairs.entries ≡ pairs_shown self.now) }
     {
         copy_pairs(alloc, &self.entries)
+    }
+
+    /// Equal places, hidden ones too. Takes memory.
+    pub(crate) fn copy(&self, alloc: Global) -> Result<Self, AllocError>
+        ensures { IfOk result (λ copied. copied ≡ self.now) }
+    {
+        Ok(Places {
+            entries: copy_places(alloc, &self.entries)?,
+            count: self.count,
+            bytes: self.bytes,
+        })
     }
 
     /// Makes a hidden place for the key, where it has none.

@@ -18,7 +18,7 @@ loop-key-preserved-in_ok-insert c =
     let key = c.in-Some.key.now in
     let value = c.in-Some-place.value in
     let step : pairs_shown at.key-iterator ≡ (key, value) ∷ pairs_shown rest = ap pairs_shown c.in-Some.ensures.steps ∙ ap (λ v. pairs_shown ((key, v) ∷ rest)) c.in-Some-place.is in
-    copied-more at.pairs.entries c.insert.new.self.entries key value _ _ (pairs_shown rest) (pairs_shown c.args.places.now.entries) (ap (λ t. at.pairs.entries ++ t) (sym step) ∙ at.invariant) (rising-shown_by (λ v. v) c.args.places.now.entries c.requires.ordered) c.in_ok-copy.ensures c.in_ok-copy-2.ensures c.in_ok-insert.ensures.entries
+    copied-more at.pairs.entries c.insert.new.self.entries key _ value _ (pairs_shown rest) (pairs_shown c.args.places.now.entries) (ap (λ t. at.pairs.entries ++ t) (sym step) ∙ at.invariant) (rising-shown_by (λ v. v) c.args.places.now.entries c.requires.ordered) c.in_ok-copy.ensures c.in_ok-copy-2.ensures c.in_ok-insert.ensures.entries
 
 pub loop-key-preserved-in_ok-insert-2 : goal.loop-key-preserved-in_ok-insert-2
 loop-key-preserved-in_ok-insert-2 c =
@@ -27,7 +27,7 @@ loop-key-preserved-in_ok-insert-2 c =
     let key = c.in-Some.key.now in
     let value = c.in-Some-place.value in
     let step : pairs_shown at.key-iterator ≡ (key, value) ∷ pairs_shown rest = ap pairs_shown c.in-Some.ensures.steps ∙ ap (λ v. pairs_shown ((key, v) ∷ rest)) c.in-Some-place.is in
-    copied-more at.pairs.entries c.insert.new.self.entries key value _ _ (pairs_shown rest) (pairs_shown c.args.places.now.entries) (ap (λ t. at.pairs.entries ++ t) (sym step) ∙ at.invariant) (rising-shown_by (λ v. v) c.args.places.now.entries c.requires.ordered) c.in_ok-copy.ensures c.in_ok-copy-2.ensures c.in_ok-insert.ensures.entries
+    copied-more at.pairs.entries c.insert.new.self.entries key _ value _ (pairs_shown rest) (pairs_shown c.args.places.now.entries) (ap (λ t. at.pairs.entries ++ t) (sym step) ∙ at.invariant) (rising-shown_by (λ v. v) c.args.places.now.entries c.requires.ordered) c.in_ok-copy.ensures c.in_ok-copy-2.ensures c.in_ok-insert.ensures.entries
 
 pub returns : goal.returns
 returns c =

@@ -250,6 +250,13 @@ AgreesWith-step mutation old new changed names changes agrees = record {
   order = names ∙ ap (λ ns. cond (brings (change_of mutation)) (with_name ns (cache_changed (change_of mutation))) ns) agrees.order ∙ sym (names-brought mutation (order_after changes)) ∙ sym (order_after-push changes (change_of mutation));
 }
 
+-- what shows the same agrees with the same lists
+pub AgreesWith-shown : (old new : Maps) → caches_in new.extents ≡ caches_in old.extents → new.names ≡ old.names → (changes : List Change) → AgreesWith changes old → AgreesWith changes new
+AgreesWith-shown old new shown names changes agrees = record {
+  contents = subst (AreContentsAfter changes) (sym shown) agrees.contents;
+  order = names ∙ agrees.order;
+}
+
 -- ---- extents that show what they showed
 
 extent_shown-same : (before now : Extent) → IsWhole before → IsShownSame before now → extent_shown now ≡ extent_shown before
@@ -297,7 +304,7 @@ whole-insert (e ∷ es) name now is whole =
       | Greater ↦ (whole.0, whole-insert es name now is whole.1)
     ]
 
-hidden_first : (name : List ℕ) (now : Extent) (rest : Caches) → now.present ≡ false → cons_option (option_map (λ (pairs : Pairs). (name, pairs)) (extent_shown now)) rest ≡ rest
+pub hidden_first : (name : List ℕ) (now : Extent) (rest : Caches) → now.present ≡ false → cons_option (option_map (λ (pairs : Pairs). (name, pairs)) (extent_shown now)) rest ≡ rest
 hidden_first name now rest gone = ap (λ b. cons_option (option_map (λ (pairs : Pairs). (name, pairs)) (cond b (Some (pairs_shown now.places)) None)) rest) gone
 
 caches_in-insert : (es : Extents) (name : List ℕ) (now : Extent) → now.present ≡ false → is_some (lookup (is_at (slice_cmp nat_cmp name)) es) ≡ false → caches_in (insert_entry (slice_cmp nat_cmp) es name now) ≡ caches_in es

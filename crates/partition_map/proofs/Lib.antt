@@ -3,6 +3,7 @@ mod InOrderLemmas
 mod SumLemmas
 mod ValueLemmas
 mod ChangedLemmas
+mod HiddenLemmas
 mod KeptLemmas
 mod ShownLemmas
 mod CountLemmas

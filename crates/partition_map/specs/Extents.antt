@@ -10,7 +10,7 @@ use Rattle.cache_model.specs.Contents.{IsRising}
 use Rattle.cache_model.specs.PlainList.{plain_cache, plain_list, spelled_length, live}
 use Rattle.partition_map.specs.declared.extent.Extent.{Extent}
 use Rattle.partition_map.specs.Order.{cache_changed}
-use Rattle.partition_map.specs.Place.{value_at, SameValues, shown_by, pairs_shown}
+use Rattle.partition_map.specs.Place.{value_at, SameValues, HidesNoMore, shown_by, pairs_shown}
 
 -- the extents by the names of their caches
 abbrev pub Extents : Type 0
@@ -90,6 +90,7 @@ pub record IsExtentAfter (change : Change) (old new : Extent) : Type 0 where
   pub presence : new.present ≡ (if rules change (cache_changed change) then presence_left change (cache_changed change) else old.present)
   pub values : (key : List ℕ) → value_at new.places key ≡ (if writes change (cache_changed change) key then value_left change (cache_changed change) key else value_at old.places key)
   pub rises : IsRising (keys_of old.places) → IsRising (keys_of new.places)
+  pub hidden : HidesNoMore old.places new.places
 
 -- the extent shows what it showed
 pub record IsShownSame (old new : Extent) : Type 0 where

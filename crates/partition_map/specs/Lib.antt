@@ -1,5 +1,6 @@
 pub mod After
 pub mod Extents
+pub mod Hidden
 pub mod Items
 pub mod Order
 pub mod Place

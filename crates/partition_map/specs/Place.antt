@@ -1,14 +1,14 @@
 -- The places of one cache in byte order of the keys: each has a value, or is hidden.
-use Rattle.std.specs.Prelude.{◌≡◌, ℕ, ◌+◌, List, length, Option, option_and_then, option_map, IsSome}
+use Rattle.std.specs.Prelude.{◌≡◌, ℕ, ◌+◌, List, length, Bool, true, false, Option, None, Some, option_and_then, option_map, IsSome}
 use Rattle.std.specs.Option.{option_map_or}
 use Rattle.std.specs.Ordering.{nat_cmp}
 use Rattle.std.specs.Cmp.Lexicographic.{slice_cmp}
-use Rattle.std.specs.List.{sum_by, filter_map}
+use Rattle.std.specs.List.{sum_by, filter_map, list_any}
 use Rattle.std.specs.Map.{lookup}
 use Rattle.std.specs.BTreeMap.{is_at}
 use Rattle.std.specs.BTreeMap.Range.{entries_between}
 use Rattle.std.specs.declared.ops.Bound.TheVariants.{Excluded, Unbounded}
-use Rattle.cache_model.specs.Caches.{Pairs}
+use Rattle.cache_model.specs.Caches.{same, Pairs}
 
 -- the keys, each with its value or hidden
 abbrev pub PlaceList : Type 0
@@ -41,6 +41,24 @@ value_bytes places = sum_by (λ p. place_bytes p.0 p.1) places
 -- each key that has a place keeps one
 abbrev pub KeepsPlaces : PlaceList → PlaceList → Type 0
 KeepsPlaces old new = (key : List ℕ) → HasPlace old key → HasPlace new key
+
+-- whether a place was found, and has no value
+abbrev pub is_hidden : Option (Option (List ℕ)) → Bool
+is_hidden None = false
+is_hidden (Some None) = true
+is_hidden (Some (Some v)) = false
+
+-- whether the place of the key has no value
+abbrev pub hides : PlaceList → List ℕ → Bool
+hides places key = is_hidden (lookup (is_at (slice_cmp nat_cmp key)) places)
+
+-- only places of these keys are hidden
+pub record HidesOnly (keys : List (List ℕ)) (places : PlaceList) : Type 0 where
+  pub among : (key : List ℕ) → hides places key ≡ true → list_any (same key) keys ≡ true
+
+-- what is hidden now was hidden before
+pub record HidesNoMore (old new : PlaceList) : Type 0 where
+  pub was : (key : List ℕ) → hides new key ≡ true → hides old key ≡ true
 
 -- the same stands at each key, and the sums are the same
 pub record SameValues (old new : PlaceList) : Type 0 where

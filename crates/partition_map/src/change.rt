@@ -1,16 +1,19 @@
 //! One change of the extents.
-ghost use Rattle.std.specs.Prelude.{◌≡◌, ℕ, ◌+◌, ◌<◌, ◌≤◌, ◌^◌, List, length, true, false, Some, None, OnOk, IfSome, IfNone, if◌then◌else◌};
+ghost use Rattle.std.specs.Prelude.{◌≡◌, ℕ, ◌+◌, ◌<◌, ◌≤◌, ◌^◌, List, [], length, true, false, Some, None, OnOk, IfSome, IfNone, if◌then◌else◌};
 ghost use Rattle.std.specs.Map.{lookup};
 ghost use Rattle.cache_model.specs.Caches.{same};
 ghost use Rattle.cache_model.specs.Change.{Change, change_of};
 ghost use Rattle.cache_model.specs.PlainList.{growth_of};
 ghost use Rattle.indexmap.specs.IndexSet.{spare};
 ghost use Rattle.partition_map.specs.Extents.{Extents};
+ghost use Rattle.partition_map.specs.Hidden.{keys_put, HideNothing, HideOnly, AreHiddenBy, IsLeftThere};
 ghost use Rattle.partition_map.specs.Order.{cache_changed, brings, with_name};
 ghost use Rattle.partition_map.specs.Readiness.{IsAppliable, HasExtentFor, HasFewPairs, room_for};
 ghost use Rattle.partition_map.specs.Written.{IsShiftOf, IsShift, ShowsAgain};
 
 use crate::extent::Extent;
+use crate::read::is_there;
+use crate::readied::Readied;
 use cache_key::{CacheName, Mutation};
 use cache_model::growth;
 use indexmap::IndexSet;
@@ -73,6 +76,7 @@ pub(crate) fn ready_extent(
 ) -> Result<(), AllocError>
     ensures ready { OnOk result (HasExtentFor (change_of mutation.now) extents.new.entries) }
     ensures shown { ShowsAgain extents.old.entries extents.new.entries }
+    ensures hidden { HideNothing extents.old.entries → HideOnly (cache_changed (change_of mutation.now)) (keys_put (change_of mutation.now)) extents.new.entries }
 {
     add_hidden(alloc, extents, named(mutation))?;
     match extents.get_mut(named(mutation)) {
@@ -87,12 +91,48 @@ fn add_hidden(
     extents: &mut BTreeMap<CacheName, Extent>,
     cache: &CacheName,
 ) -> Result<(), AllocError>
-    ensures { ShowsAgain extents.old.entries extents.new.entries }
+    ensures shown { ShowsAgain extents.old.entries extents.new.entries }
+    ensures hidden { HideNothing extents.old.entries → HideOnly cache.now [] extents.new.entries }
 {
     if !extents.contains_key(cache) {
         extents.insert(cache.copy()?, Extent::empty(alloc))?;
     }
     Ok(())
+}
+
+/// Takes away what was made ready and has no value: the places, and the extent where the cache isn't there.
+pub(crate) fn forget(extents: &mut BTreeMap<CacheName, Extent>, readied: &Option<Readied>)
+    ensures shown { ShowsAgain extents.old.entries extents.new.entries }
+    ensures hidden { AreHiddenBy readied.now extents.old.entries → HideNothing extents.new.entries }
+{
+    match readied {
+        Some(readied) => {
+            forget_places(extents, readied);
+            remove_absent(extents, &readied.cache);
+        }
+        None => (),
+    }
+}
+
+// Takes the places away that were made ready and have no value.
+fn forget_places(extents: &mut BTreeMap<CacheName, Extent>, readied: &Readied)
+    ensures shown { ShowsAgain extents.old.entries extents.new.entries }
+    ensures hidden { HideOnly readied.now.cache readied.now.keys.items extents.old.entries → HideOnly readied.now.cache [] extents.new.entries }
+{
+    match extents.get_mut(&readied.cache) {
+        Some(extent) => extent.forget(readied.keys.as_slice()),
+        None => (),
+    }
+}
+
+/// Takes the extent of the cache away, where it isn't there.
+pub(crate) fn remove_absent(extents: &mut BTreeMap<CacheName, Extent>, cache: &CacheName)
+    ensures shown { ShowsAgain extents.old.entries extents.new.entries }
+    ensures left { IsLeftThere cache.now extents.old.entries extents.new.entries }
+{
+    if !is_there(extents.get(cache)) {
+        extents.remove(cache);
+    }
 }
 
 /// Gives the name a number, where it was made present and has none. Takes no memory.

@@ -2,17 +2,18 @@
 ghost use Rattle.std.specs.Prelude.{OnOk, IfOk, ◌≡◌, ℕ, ◌+◌, ◌<◌, ◌≤◌, ◌^◌, List, [], length, take, ◌++◌, ◌∷◌, unwrap_or, true, false};
 ghost use Rattle.std.specs.Option.{option_copied};
 ghost use Rattle.cache_key.specs.declared.request.Mutation.TheVariants.{Ensure};
-ghost use Rattle.cache_model.specs.Caches.{Caches};
+ghost use Rattle.cache_model.specs.Caches.{Caches, same};
 ghost use Rattle.cache_model.specs.PlainList.{puts_of};
 ghost use Rattle.cache_model.specs.Shown.{caches_shown};
-ghost use Rattle.std.specs.List.{AllByRecursion};
+ghost use Rattle.std.specs.List.{AllByRecursion, list_any};
 ghost use Rattle.std.specs.List.Sorted.{IsStrictlySortedBy};
 ghost use Rattle.std.specs.Ordering.{nat_cmp};
 ghost use Rattle.std.specs.Cmp.Lexicographic.{slice_cmp};
 ghost use Rattle.std.specs.Map.{keys_of};
 ghost use Rattle.cache_model.specs.Change.{change_of};
-ghost use Rattle.partition_map.specs.Place.{value_at, HasPlace, KeepsPlaces, SameValues, value_count, value_bytes};
+ghost use Rattle.partition_map.specs.Place.{value_at, HasPlace, KeepsPlaces, SameValues, HidesOnly, HidesNoMore, value_count, value_bytes};
 ghost use Rattle.partition_map.specs.Extents.{value_put, pair_bytes, more_count, more_bytes, IsExtentAfter, IsShownSame, IsWhole, extent_items, extent_bytes, extent_shown, caches_in, plain_in};
+ghost use Rattle.partition_map.specs.Hidden.{keys_put};
 ghost use Rattle.partition_map.specs.Items.{pairs_after};
 ghost use Rattle.partition_map.specs.Order.{cache_changed, brings};
 ghost use Rattle.partition_map.specs.Readiness.{IsAppliable};
@@ -180,6 +181,7 @@ impl Extent {
     pub(crate) fn ready(&mut self, mutation: &Mutation) -> Result<(), AllocError>
         ensures ready { OnOk result (IsAppliable (change_of mutation.now) self.new.places) }
         ensures shown { IsShownSame self.old self.new }
+        ensures hidden { HidesOnly [] self.old.places → HidesOnly (keys_put (change_of mutation.now)) self.new.places }
     {
         match mutation {
             Mutation::Put(_, key, value) => {
@@ -197,6 +199,14 @@ impl Extent {
             | Mutation::Truncate(_)
             | Mutation::Destroy(_) => check_sums(&self.places, 0, 0),
         }
+    }
+
+    /// Takes the places of these keys away that are hidden. What is shown stays.
+    pub(crate) fn forget(&mut self, keys: &[Key])
+        ensures shown { IsShownSame self.old self.new }
+        ensures hidden { HidesOnly keys.now self.old.places → HidesOnly [] self.new.places }
+    {
+        forget_keys(&mut self.places, keys);
     }
 
     /// Makes the change of the mutation, which is one of this cache, and gives the name back. Takes no memory.
@@ -266,6 +276,7 @@ fn check_sums(places: &Places, count: u64, bytes: u64) -> Result<(), AllocError>
 fn ready_pairs(places: &mut Places, pairs: &[(Key, Value)]) -> Result<(), AllocError>
     ensures places { OnOk result (AllByRecursion (λ p. HasPlace places.new p.0) pairs.now) }
     ensures values { SameValues places.old places.new }
+    ensures hidden { (keys : List (List ℕ)) → AllByRecursion (λ p. list_any (same p.0) keys ≡ true) pairs.now → HidesOnly keys places.old → HidesOnly keys places.new }
     ensures ordered { IsStrictlySortedBy (slice_cmp nat_cmp) (keys_of places.old) → IsStrictlySortedBy (slice_cmp nat_cmp) (keys_of places.new) }
 {
     let mut rest = pairs;
@@ -274,6 +285,19 @@ fn ready_pairs(places: &mut Places, pairs: &[(Key, Value)]) -> Result<(), AllocE
         rest = others;
     }
     Ok(())
+}
+
+// Takes the hidden place of each of these keys away.
+fn forget_keys(places: &mut Places, keys: &[Key])
+    ensures values { SameValues places.old places.new }
+    ensures hidden { HidesOnly keys.now places.old → HidesOnly [] places.new }
+    ensures ordered { IsStrictlySortedBy (slice_cmp nat_cmp) (keys_of places.old) → IsStrictlySortedBy (slice_cmp nat_cmp) (keys_of places.new) }
+{
+    let mut rest = keys;
+    while let Some((first, others)) = rest.split_first() {
+        places.forget(first);
+        rest = others;
+    }
 }
 
 // The bytes of the pairs, where they can be counted.
@@ -298,6 +322,7 @@ fn put_pairs(places: &mut Places, pairs: Pairs)
     requires counts { value_count places.old + length pairs < 2 ^ 62 }
     requires bytes { value_bytes places.old + pair_bytes pairs < 2 ^ 62 }
     ensures values { (key : List ℕ) → value_at places.new key ≡ value_put pairs key (value_at places.old key) }
+    ensures hidden { HidesNoMore places.old places.new }
     ensures ordered { IsStrictlySortedBy (slice_cmp nat_cmp) (keys_of places.old) → IsStrictlySortedBy (slice_cmp nat_cmp) (keys_of places.new) }
 {
     for (key, value) in pairs.into_list() {

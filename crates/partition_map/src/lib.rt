@@ -26,6 +26,7 @@ mod list;
 mod map;
 mod places;
 mod read;
+mod readied;
 
 pub use item::LastItem;
 pub use map::PartitionMap;

@@ -11,13 +11,16 @@ ghost use Rattle.partition_map.specs.Extents.{caches_in, AreKept};
 ghost use Rattle.partition_map.specs.Items.{items_after};
 ghost use Rattle.partition_map.specs.Order.{brings, extent_number};
 
-use crate::change::{change_extent, makes_present, named, number_name, ready_extent, room_for};
+use crate::change::{
+    change_extent, forget, makes_present, number_name, ready_extent, remove_absent, room_for,
+};
 use crate::copy::{copy_extents, copy_names};
 use crate::count::count_after_item;
 use crate::extent::Extent;
 use crate::item::LastItem;
 use crate::list::{add_after, copy_caches};
 use crate::read::{count_of, is_there, value_of};
+use crate::readied::Readied;
 use cache_key::{CacheName, Key, Mutation, Reply, Request, Value};
 use cache_model::Contents;
 use indexmap::IndexSet;
@@ -47,6 +50,7 @@ pub struct PartitionMap {
     names: IndexSet<CacheName>,
     items: u64,
     bytes: u64,
+    readied: Option<Readied>,
     alloc: Global,
 }
 
@@ -54,12 +58,13 @@ impl Model for PartitionMap {
     ghost use Rattle.std.specs.Prelude.{◌≤◌, ◌^◌, length};
     ghost use Rattle.indexmap.specs.IndexSet.{spare};
     ghost use Rattle.partition_map.specs.Extents.{Maps, AreKept};
+    ghost use Rattle.partition_map.specs.Hidden.{AreHiddenBy};
 
     ghost Value = { Maps };
 
     ghost view = { λ m. record { extents = m.extents.entries; names = m.names.keys; room = spare m.names } };
 
-    ghost invariant = { λ m. AreKept m.extents.entries m.items m.bytes × (length m.names.keys ≤ 2 ^ 32) };
+    ghost invariant = { λ m. AreKept m.extents.entries m.items m.bytes × (length m.names.keys ≤ 2 ^ 32) × AreHiddenBy m.readied m.extents.entries };
 }
 
 impl PartitionMap {
@@ -72,6 +77,7 @@ impl PartitionMap {
             names: IndexSet::new(alloc),
             items: 0,
             bytes: 0,
+            readied: None,
             alloc,
         }
     }
@@ -107,11 +113,14 @@ impl PartitionMap {
         ensures contents { IfOk result (λ copied. caches_in copied.extents ≡ caches_in self.now.extents) }
         ensures numbers { IfOk result (λ copied. copied.names ≡ self.now.names) }
     {
+        let mut extents = copy_extents(alloc, &self.extents)?;
+        forget(&mut extents, &self.readied);
         Ok(PartitionMap {
-            extents: copy_extents(alloc, &self.extents)?,
+            extents,
             names: copy_names(alloc, &self.names)?,
             items: self.items,
             bytes: self.bytes,
+            readied: None,
             alloc,
         })
     }
@@ -178,6 +187,9 @@ impl PartitionMap {
             return Err(AllocError);
         }
         self.names.reserve(1)?;
+        let readied = Readied::of(self.alloc, mutation)?;
+        forget(&mut self.extents, &self.readied);
+        self.readied = Some(readied);
         ready_extent(self.alloc, &mut self.extents, mutation)
     }
 
@@ -191,6 +203,7 @@ impl PartitionMap {
             Some(shift) => {
                 self.items = self.items - shift.gone_items + shift.come_items;
                 self.bytes = self.bytes - shift.gone_bytes + shift.come_bytes;
+                remove_absent(&mut self.extents, &shift.cache);
                 number_name(&mut self.names, shift.cache, is_present_then);
             }
             None => (),

@@ -1,15 +1,16 @@
 //! The places of one cache.
-ghost use Rattle.std.specs.Prelude.{take, ◌++◌, ◌≡◌, ℕ, ◌+◌, ◌≤◌, ◌<◌, ◌^◌, List, [], length, None, Some, Ok, true, false, IfOk, OnOk, OnErr, IsSome, is_some, if◌then◌else◌, option_copied, option_and_then};
+ghost use Rattle.std.specs.Prelude.{take, ◌++◌, ◌∷◌, ◌≡◌, ℕ, ◌+◌, ◌≤◌, ◌<◌, ◌^◌, List, [], length, None, Some, Ok, true, false, IfOk, OnOk, OnErr, IsSome, is_some, if◌then◌else◌, option_copied, option_and_then};
 ghost use Rattle.std.specs.Option.{option_map_or};
 ghost use Rattle.std.specs.Ordering.{nat_cmp};
 ghost use Rattle.std.specs.Cmp.Lexicographic.{slice_cmp};
-ghost use Rattle.std.specs.Map.{lookup};
+ghost use Rattle.std.specs.Map.{lookup, remove_entry};
 ghost use Rattle.std.specs.BTreeMap.{is_at};
+ghost use Rattle.std.specs.List.{list_any};
 ghost use Rattle.cache_model.specs.Caches.{same};
 ghost use Rattle.std.specs.List.Sorted.{IsStrictlySortedBy};
 ghost use Rattle.std.specs.Map.{keys_of};
 ghost use Rattle.cache_model.specs.PlainList.{puts_of};
-ghost use Rattle.partition_map.specs.Place.{value_at, HasPlace, KeepsPlaces, SameValues, pairs_shown, places_after, value_count, value_bytes};
+ghost use Rattle.partition_map.specs.Place.{value_at, HasPlace, KeepsPlaces, SameValues, hides, is_hidden, HidesOnly, HidesNoMore, pairs_shown, places_after, value_count, value_bytes};
 
 use crate::copy::copy_places;
 use cache_key::{CacheName, Key, Mutation, Value};
@@ -134,6 +135,7 @@ impl Places {
         ensures place { OnOk result (HasPlace self.new key.now) }
         ensures stays { KeepsPlaces self.old self.new }
         ensures values { SameValues self.old self.new }
+        ensures hidden { (keys : List (List ℕ)) → list_any (same key.now) keys ≡ true → HidesOnly keys self.old → HidesOnly keys self.new }
         ensures ordered { IsStrictlySortedBy (slice_cmp nat_cmp) (keys_of self.new) }
     {
         if self.entries.contains_key(key) {
@@ -153,6 +155,7 @@ impl Places {
         ensures stays { KeepsPlaces self.old self.new }
         ensures count { value_count self.new ≤ value_count self.old + 1 }
         ensures bytes { value_bytes self.new ≤ value_bytes self.old + length key + length value }
+        ensures hidden { HidesNoMore self.old self.new }
         ensures ordered { IsStrictlySortedBy (slice_cmp nat_cmp) (keys_of self.new) }
     {
         let key_bytes = key.text().len() as u64;
@@ -165,9 +168,23 @@ impl Places {
         self.bytes = self.bytes + bytes - old_bytes;
     }
 
+    /// Takes the place of the key away, if it is hidden.
+    pub(crate) fn forget(&mut self, key: &Key)
+        ensures values { SameValues self.old self.new }
+        ensures hidden { (keys : List (List ℕ)) → HidesOnly (key.now ∷ keys) self.old → HidesOnly keys self.new }
+        ensures ordered { IsStrictlySortedBy (slice_cmp nat_cmp) (keys_of self.new) }
+    {
+        if is_hidden(self.entries.get(key)) {
+            self.remove(key);
+        }
+    }
+
     /// Takes the place of the key away.
     pub(crate) fn remove(&mut self, key: &Key)
+        ensures entries { self.new ≡ remove_entry (is_at (slice_cmp nat_cmp key.now)) self.old }
+        ensures found { (other : List ℕ) → lookup (is_at (slice_cmp nat_cmp other)) self.new ≡ (if is_at (slice_cmp nat_cmp key.now) other then None else lookup (is_at (slice_cmp nat_cmp other)) self.old) }
         ensures values { (other : List ℕ) → value_at self.new other ≡ (if same key.now other then None else value_at self.old other) }
+        ensures hidden { HidesNoMore self.old self.new }
         ensures ordered { IsStrictlySortedBy (slice_cmp nat_cmp) (keys_of self.new) }
     {
         let old = self.entries.remove(key);
@@ -178,6 +195,7 @@ impl Places {
     /// Takes all places away.
     pub(crate) fn clear(&mut self)
         ensures none { self.new ≡ [] }
+        ensures hidden { HidesNoMore self.old self.new }
         ensures ordered { IsStrictlySortedBy (slice_cmp nat_cmp) (keys_of self.new) }
     {
         self.entries.clear();
@@ -194,6 +212,17 @@ fn value_in(place: Option<&Option<Value>>) -> Option<&Value>
         Some(Some(value)) => Some(value),
         Some(None) => None,
         None => None,
+    }
+}
+
+// Whether a place was found, and has no value.
+fn is_hidden(place: Option<&Option<Value>>) -> bool
+    ensures { result ≡ is_hidden (option_copied place.entry) }
+{
+    match place {
+        Some(Some(_)) => false,
+        Some(None) => true,
+        None => false,
     }
 }
 

@@ -6,6 +6,7 @@ use Rattle.cache_model.specs.Caches.{Pairs}
 use Rattle.partition_map.specs.Place.{value_at, HasPlace}
 use Rattle.partition_map.specs.Extents.{value_put, pair_bytes}
 use Rattle.partition_map.proofs.BatchLemmas.{all-kept}
+use Rattle.partition_map.proofs.HiddenLemmas.{HidesNoMore-chain}
 use Rattle.partition_map.proofs.extent.put_pairs.Goals as goal
 
 pub loop-key-preserved : goal.loop-key-preserved
@@ -19,4 +20,5 @@ loop-key-preserved c =
       omega (arith, at.invariant.3, ap pair_bytes step, sum_by-cons (λ p. length p.0 + length p.1) (c.in-Some.key, c.in-Some.value) rest, c.put.ensures.bytes),
       (λ rises. c.put.ensures.ordered),
       (let was = at.invariant.5 in let gone = c.in-Some.ensures.steps.1 in let short = ap length step in omega arith),
+      HidesNoMore-chain _ at.places c.put.new.self at.invariant.6 c.put.ensures.hidden,
     )

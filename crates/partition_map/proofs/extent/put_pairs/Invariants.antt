@@ -5,7 +5,7 @@ use Rattle.std.specs.Ordering.{nat_cmp}
 use Rattle.std.specs.Cmp.Lexicographic.{slice_cmp}
 use Rattle.std.specs.Map.{keys_of}
 use Rattle.std.specs.Vec.Iter.{into_iter_items, into_iter_len}
-use Rattle.partition_map.specs.Place.{value_at, HasPlace, value_count, value_bytes}
+use Rattle.partition_map.specs.Place.{value_at, HasPlace, HidesNoMore, value_count, value_bytes}
 use Rattle.partition_map.specs.Extents.{value_put, pair_bytes}
 use Rattle.partition_map.proofs.extent.put_pairs.Given as goal
 
@@ -18,3 +18,4 @@ invariant-loop-key l =
     × (value_bytes l.places + pair_bytes (into_iter_items l.key-iterator) ≤ value_bytes l.initial.places + pair_bytes (into_iter_items l.initial.key-iterator))
     × (IsStrictlySortedBy (slice_cmp nat_cmp) (keys_of l.initial.places) → IsStrictlySortedBy (slice_cmp nat_cmp) (keys_of l.places))
     × (into_iter_len l.key-iterator ≡ length (into_iter_items l.key-iterator))
+    × HidesNoMore l.initial.places l.places

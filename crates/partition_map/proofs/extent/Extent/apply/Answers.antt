@@ -16,4 +16,5 @@ returns-in-Batch-clause-after c =
       presence = sym (ap (λ b. cond b true was.present) here);
       values = λ key. c.put_pairs.ensures.values key ∙ value_put-is pairs key (value_at was.places key) ∙ sym (ap (λ b. cond (b && is_some (lookup (same key) pairs)) (lookup (same key) (reverse pairs)) (value_at was.places key)) here);
       rises = c.put_pairs.ensures.ordered;
+      hidden = c.put_pairs.ensures.hidden;
     })

@@ -2,7 +2,7 @@ use Rattle.std.proofs.Common.{length, ap, ◌∙◌, sym, arith}
 use Rattle.std.proofs.lemmas.Result.{on_ok_weaker}
 use Rattle.cache_model.specs.PlainList.{live}
 use Rattle.partition_map.specs.Extents.{Maps, caches_in}
-use Rattle.partition_map.proofs.ChangedLemmas.{growth_none, only_contents, on_ok_always}
+use Rattle.partition_map.proofs.ChangedLemmas.{ShowsAgain-chain, growth_none, only_contents, on_ok_always}
 use Rattle.partition_map.proofs.map.PartitionMap.ready.Goals as goal
 
 pub returns-then-not-makes_present-clause-fits : goal.returns-then-not-makes_present-clause-fits
@@ -11,7 +11,9 @@ returns-then-not-makes_present-clause-fits c = λ changes caches agrees contents
 
 pub returns-clause-ready : goal.returns-clause-ready
 returns-clause-ready c =
-    let shown = c.ready_extent.ensures.shown.shown c.self.invariant.0.whole c.self.invariant.0.rises in
+    let old = c.self.inside.extents.entries in
+    let again = ShowsAgain-chain old c.forget.new.extents.entries c.ready_extent.new.extents.entries c.forget.ensures.shown c.ready_extent.ensures.shown in
+    let shown = again.shown c.self.invariant.0.whole c.self.invariant.0.rises in
     on_ok_weaker c.ready_extent.result (λ extent brought. record {
       extent = extent;
       room = omega (arith, c.in_ok-reserve.ensures.ok);

@@ -1,7 +1,8 @@
-use Rattle.std.proofs.Common.{Some, length, ap, ◌∙◌, arith}
+use Rattle.std.proofs.Common.{Some, length, ap, ◌∙◌, refl, arith}
 use Rattle.partition_map.specs.Place.{place_count, place_bytes, value_count, value_bytes}
 use Rattle.partition_map.proofs.SumLemmas.{weight, total-put, old_from_insert, entries_from_insert}
 use Rattle.partition_map.proofs.ValueLemmas.{values-changed}
+use Rattle.partition_map.proofs.HiddenLemmas.{hides-shown}
 use Rattle.partition_map.proofs.places.Places.put.Goals as goal
 
 pub overflow_add-self : goal.overflow_add-self
@@ -36,3 +37,7 @@ pub returns-clause-bytes : goal.returns-clause-bytes
 returns-clause-bytes c =
     let after = entries_from_insert c.insert-put.result _ _ c.unwrap-old.ensures c.insert-put.ensures.entries in
     omega (arith, ap value_bytes after, ap value_bytes c.self.view_is, total-put place_bytes c.self.inside.entries.entries c.args.key (Some c.args.value) c.insert-put.ensures.was_ordered)
+
+pub returns-clause-hidden : goal.returns-clause-hidden
+returns-clause-hidden c =
+    rw (← c.self.view_is) (hides-shown _ _ c.args.key (Some (Some c.args.value)) (entries_from_insert c.insert-put.result _ _ c.unwrap-old.ensures c.insert-put.ensures.updates).0 refl)

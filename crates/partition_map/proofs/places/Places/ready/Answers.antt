@@ -1,4 +1,6 @@
-use Rattle.std.proofs.Common.{◌≡◌, None, is_some, false, refl, ap, ◌∙◌, sym}
+use Rattle.std.proofs.Common.{◌≡◌, ℕ, List, None, is_some, true, false, refl, ap, ◌∙◌, sym, subst}
+use Rattle.std.specs.List.{list_any}
+use Rattle.cache_model.specs.Caches.{same}
 use Rattle.std.specs.Ordering.{nat_cmp}
 use Rattle.std.specs.Cmp.Lexicographic.{slice_cmp}
 use Rattle.std.specs.Map.{lookup}
@@ -6,6 +8,7 @@ use Rattle.std.specs.BTreeMap.{is_at}
 use Rattle.partition_map.specs.Place.{place_count, place_bytes, value_count, value_bytes}
 use Rattle.partition_map.proofs.SumLemmas.{total-hidden}
 use Rattle.partition_map.proofs.ValueLemmas.{values-hidden}
+use Rattle.partition_map.proofs.HiddenLemmas.{hides-one}
 use Rattle.partition_map.proofs.places.Places.ready.Goals as goal
 
 pub invariant_of-self-2 : goal.invariant_of-self-2
@@ -28,3 +31,7 @@ returns-clause-values c =
       count = ap value_count c.in_ok-insert.ensures.entries ∙ total-hidden place_count es k None c.insert.ensures.was_ordered refl absent;
       bytes = ap value_bytes c.in_ok-insert.ensures.entries ∙ total-hidden place_bytes es k None c.insert.ensures.was_ordered refl absent;
     })
+
+pub returns-clause-hidden : goal.returns-clause-hidden
+returns-clause-hidden c =
+    rw (← c.self.view_is) (λ keys one only. hides-one keys c.self.inside.entries.entries c.insert.new.self.entries c.in_ok-key.key c.in_ok-insert.ensures.updates.0 (subst (λ (k : List ℕ). list_any (same k) keys ≡ true) (sym c.in_ok-key.ensures) one) only)

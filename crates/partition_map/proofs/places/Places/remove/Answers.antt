@@ -1,7 +1,8 @@
-use Rattle.std.proofs.Common.{None, ap, ◌∙◌, arith}
+use Rattle.std.proofs.Common.{None, ap, ◌∙◌, refl, arith}
 use Rattle.partition_map.specs.Place.{place_count, place_bytes, value_count, value_bytes}
 use Rattle.partition_map.proofs.SumLemmas.{weight, total-remove}
 use Rattle.partition_map.proofs.ValueLemmas.{values-changed}
+use Rattle.partition_map.proofs.HiddenLemmas.{hides-shown}
 use Rattle.partition_map.proofs.places.Places.remove.Goals as goal
 
 pub overflow_sub-self : goal.overflow_sub-self
@@ -28,3 +29,13 @@ invariant_of-self c =
 pub returns-clause-values : goal.returns-clause-values
 returns-clause-values c =
     rw (← c.self.view_is) (values-changed _ _ c.args.key.now None c.remove-old.ensures.updates.0)
+
+pub returns-clause-hidden : goal.returns-clause-hidden
+returns-clause-hidden c =
+    rw (← c.self.view_is) (hides-shown _ _ c.args.key.now None c.remove-old.ensures.updates.0 refl)
+
+pub returns-clause-entries : goal.returns-clause-entries
+returns-clause-entries c = rw (← c.self.view_is) c.remove-old.ensures.entries
+
+pub returns-clause-found : goal.returns-clause-found
+returns-clause-found c = rw (← c.self.view_is) c.remove-old.ensures.updates.0

@@ -14,7 +14,7 @@ use Rattle.cache_model.proofs.ShownLemmas.{same-is_at}
 use Rattle.partition_map.specs.declared.extent.Extent.{Extent}
 use Rattle.partition_map.specs.declared.readied.Readied.{Readied}
 use Rattle.partition_map.specs.Extents.{Extents, extent_shown, caches_in, IsWhole}
-use Rattle.partition_map.specs.Hidden.{HidesHere, HideNothing, HideOnly, AreHiddenBy, if_there, IsLeftThere}
+use Rattle.partition_map.specs.Hidden.{HidesHere, HideNothing, HideOnlyOf, AreHiddenBy, if_there, IsLeftThere}
 use Rattle.partition_map.specs.Place.{PlaceList, value_at, is_hidden, hides, HidesOnly, HidesNoMore, SameValues, place_count, place_bytes, value_count, value_bytes}
 use Rattle.partition_map.specs.Written.{ShowsAgain}
 use Rattle.partition_map.proofs.ChangedLemmas.{AreWhole, IsWritten, presence_held, hidden_first}
@@ -184,12 +184,12 @@ nothing-here true (Some e) h = there_alone false [] e e.present refl h.1
 nothing-here false o h = h
 
 -- once the extent is gone, nothing is hidden
-pub HideNothing-left : (cache : List ℕ) (old new : Extents) → IsLeftThere cache old new → HideOnly cache [] old → HideNothing new
+pub HideNothing-left : (cache : List ℕ) (old new : Extents) → IsLeftThere cache old new → HideOnlyOf cache [] old → HideNothing new
 HideNothing-left cache old new left only = λ other. subst (HidesHere false []) (sym (left other)) (nothing-here (same cache other) (lookup (same other) old) (only other))
 
 -- the extent of the cache is written, and hides only these keys now
-pub HideOnly-written : (cache : List ℕ) (keys keys_now : List (List ℕ)) (old new : Extents) (before now : Extent) → lookup (same cache) old ≡ Some before → IsWritten cache old new now → (HidesOnly keys before.places → HidesOnly keys_now now.places) → HideOnly cache keys old → HideOnly cache keys_now new
-HideOnly-written cache keys keys_now old new before now was written hides_now only = λ other.
+pub HideOnlyOf-written : (cache : List ℕ) (keys keys_now : List (List ℕ)) (old new : Extents) (before now : Extent) → lookup (same cache) old ≡ Some before → IsWritten cache old new now → (HidesOnly keys before.places → HidesOnly keys_now now.places) → HideOnlyOf cache keys old → HideOnlyOf cache keys_now new
+HideOnlyOf-written cache keys keys_now old new before now was written hides_now only = λ other.
     subst (HidesHere (same cache other) (cond (same cache other) keys_now [])) (sym (written other)) (by other (same cache other) refl (only other))
   where
     by : (other : List ℕ) (b : Bool) → same cache other ≡ b → HidesHere b (cond b keys []) (lookup (same other) old) → HidesHere b (cond b keys_now []) (cond b (Some now) (lookup (same other) old))
@@ -200,15 +200,15 @@ nothing-only : (a : Bool) (keys : List (List ℕ)) (o : Option Extent) → Hides
 nothing-only a keys None h = tt
 nothing-only a keys (Some e) h = (λ absent. absurd (false≢true (h.0 absent)), record { among = λ key is. absurd (false≢true (h.1.among key is)) })
 
-pub HideOnly-nothing : (cache : List ℕ) (keys : List (List ℕ)) (es : Extents) → HideNothing es → HideOnly cache keys es
-HideOnly-nothing cache keys es nothing = λ other. nothing-only (same cache other) (cond (same cache other) keys []) (lookup (same other) es) (nothing other)
+pub HideOnlyOf-nothing : (cache : List ℕ) (keys : List (List ℕ)) (es : Extents) → HideNothing es → HideOnlyOf cache keys es
+HideOnlyOf-nothing cache keys es nothing = λ other. nothing-only (same cache other) (cond (same cache other) keys []) (lookup (same other) es) (nothing other)
 
 no_places : (e : Extent) → e.places ≡ [] → HidesOnly [] e.places
 no_places e none = record { among = λ key is. absurd (false≢true (ap (λ (places : PlaceList). hides places key) (sym none) ∙ is)) }
 
 -- an extent without places is added
-pub HideOnly-inserted : (cache : List ℕ) (old new : Extents) (now : Extent) → now.places ≡ [] → IsWritten cache old new now → HideNothing old → HideOnly cache [] new
-HideOnly-inserted cache old new now none written nothing = λ other. subst (HidesHere (same cache other) (cond (same cache other) [] [])) (sym (written other)) (by (same cache other) (lookup (same other) old) (nothing other))
+pub HideOnlyOf-inserted : (cache : List ℕ) (old new : Extents) (now : Extent) → now.places ≡ [] → IsWritten cache old new now → HideNothing old → HideOnlyOf cache [] new
+HideOnlyOf-inserted cache old new now none written nothing = λ other. subst (HidesHere (same cache other) (cond (same cache other) [] [])) (sym (written other)) (by (same cache other) (lookup (same other) old) (nothing other))
   where
     by : (b : Bool) (o : Option Extent) → HidesHere false [] o → HidesHere b (cond b [] []) (cond b (Some now) o)
     by true o h = (λ _. refl, no_places now none)
@@ -230,16 +230,16 @@ AreHiddenBy-changed readied cache old mid new before now was written no_more lef
     each (Some r) h = λ other. here (same r.cache other) (cond (same r.cache other) r.keys.items []) other (h other)
 
 -- there is no extent of the cache
-pub HideOnly-absent : (cache : List ℕ) (keys keys_now : List (List ℕ)) (es : Extents) → lookup (same cache) es ≡ None → HideOnly cache keys es → HideOnly cache keys_now es
-HideOnly-absent cache keys keys_now es none only = λ other. by other (same cache other) refl (only other)
+pub HideOnlyOf-absent : (cache : List ℕ) (keys keys_now : List (List ℕ)) (es : Extents) → lookup (same cache) es ≡ None → HideOnlyOf cache keys es → HideOnlyOf cache keys_now es
+HideOnlyOf-absent cache keys keys_now es none only = λ other. by other (same cache other) refl (only other)
   where
     by : (other : List ℕ) (b : Bool) → same cache other ≡ b → HidesHere b (cond b keys []) (lookup (same other) es) → HidesHere b (cond b keys_now []) (lookup (same other) es)
     by other true here h = subst (HidesHere true keys_now) (sym (ap (λ (k : List ℕ). lookup (same k) es) (sym ((bytes_decides cache other).0 here)) ∙ none)) tt
     by other false apart h = h
 
 -- more keys may be hidden
-pub HideOnly-more : (cache : List ℕ) (keys : List (List ℕ)) (es : Extents) → HideOnly cache [] es → HideOnly cache keys es
-HideOnly-more cache keys es only = λ other. by (same cache other) (lookup (same other) es) (only other)
+pub HideOnlyOf-more : (cache : List ℕ) (keys : List (List ℕ)) (es : Extents) → HideOnlyOf cache [] es → HideOnlyOf cache keys es
+HideOnlyOf-more cache keys es only = λ other. by (same cache other) (lookup (same other) es) (only other)
   where
     by : (b : Bool) (o : Option Extent) → HidesHere b (cond b [] []) o → HidesHere b (cond b keys []) o
     by b None h = tt

@@ -28,13 +28,13 @@ abbrev pub HideNothing : Extents → Type 0
 HideNothing extents = (cache : List ℕ) → HidesHere false [] (lookup (same cache) extents)
 
 -- the same, but for this cache and these keys of it
-abbrev pub HideOnly : List ℕ → List (List ℕ) → Extents → Type 0
-HideOnly readied keys extents = (cache : List ℕ) → HidesHere (same readied cache) (if same readied cache then keys else []) (lookup (same cache) extents)
+abbrev pub HideOnlyOf : List ℕ → List (List ℕ) → Extents → Type 0
+HideOnlyOf readied keys extents = (cache : List ℕ) → HidesHere (same readied cache) (if same readied cache then keys else []) (lookup (same cache) extents)
 
 -- the same, but for what was made ready last
 abbrev pub AreHiddenBy : Option Readied → Extents → Type 0
 AreHiddenBy None extents = HideNothing extents
-AreHiddenBy (Some readied) extents = HideOnly readied.cache readied.keys.items extents
+AreHiddenBy (Some readied) extents = HideOnlyOf readied.cache readied.keys.items extents
 
 -- the extent, if its cache is there
 abbrev pub if_there : Option Extent → Option Extent

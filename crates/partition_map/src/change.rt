@@ -6,7 +6,7 @@ ghost use Rattle.cache_model.specs.Change.{Change, change_of};
 ghost use Rattle.cache_model.specs.PlainList.{growth_of};
 ghost use Rattle.indexmap.specs.IndexSet.{spare};
 ghost use Rattle.partition_map.specs.Extents.{Extents};
-ghost use Rattle.partition_map.specs.Hidden.{keys_put, HideNothing, HideOnly, AreHiddenBy, IsLeftThere};
+ghost use Rattle.partition_map.specs.Hidden.{keys_put, HideNothing, HideOnlyOf, AreHiddenBy, IsLeftThere};
 ghost use Rattle.partition_map.specs.Order.{cache_changed, brings, with_name};
 ghost use Rattle.partition_map.specs.Readiness.{IsAppliable, HasExtentFor, HasFewPairs, room_for};
 ghost use Rattle.partition_map.specs.Written.{IsShiftOf, IsShift, ShowsAgain};
@@ -76,7 +76,7 @@ pub(crate) fn ready_extent(
 ) -> Result<(), AllocError>
     ensures ready { OnOk result (HasExtentFor (change_of mutation.now) extents.new.entries) }
     ensures shown { ShowsAgain extents.old.entries extents.new.entries }
-    ensures hidden { HideNothing extents.old.entries → HideOnly (cache_changed (change_of mutation.now)) (keys_put (change_of mutation.now)) extents.new.entries }
+    ensures hidden { HideNothing extents.old.entries → HideOnlyOf (cache_changed (change_of mutation.now)) (keys_put (change_of mutation.now)) extents.new.entries }
 {
     add_hidden(alloc, extents, named(mutation))?;
     match extents.get_mut(named(mutation)) {
@@ -92,7 +92,7 @@ fn add_hidden(
     cache: &CacheName,
 ) -> Result<(), AllocError>
     ensures shown { ShowsAgain extents.old.entries extents.new.entries }
-    ensures hidden { HideNothing extents.old.entries → HideOnly cache.now [] extents.new.entries }
+    ensures hidden { HideNothing extents.old.entries → HideOnlyOf cache.now [] extents.new.entries }
 {
     if !extents.contains_key(cache) {
         extents.insert(cache.copy()?, Extent::empty(alloc))?;
@@ -117,7 +117,7 @@ pub(crate) fn forget(extents: &mut BTreeMap<CacheName, Extent>, readied: &Option
 // Takes the places away that were made ready and have no value.
 fn forget_places(extents: &mut BTreeMap<CacheName, Extent>, readied: &Readied)
     ensures shown { ShowsAgain extents.old.entries extents.new.entries }
-    ensures hidden { HideOnly readied.now.cache readied.now.keys.items extents.old.entries → HideOnly readied.now.cache [] extents.new.entries }
+    ensures hidden { HideOnlyOf readied.now.cache readied.now.keys.items extents.old.entries → HideOnlyOf readied.now.cache [] extents.new.entries }
 {
     match extents.get_mut(&readied.cache) {
         Some(extent) => extent.forget(readied.keys.as_slice()),

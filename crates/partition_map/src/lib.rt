@@ -6,15 +6,16 @@
 //!   specs/After.antt), that it is ready for a change (`IsReadyFor`, specs/Readiness.antt), and which items stand after one
 //!   (`items_after`, specs/Items.antt).
 //! Keeps: `apply` appends to the list; `ready` leaves the contents as they are, also after an error; a store of the
-//!   contents stays shorter than 2^48 bytes. A number, once given to a cache, stays its own. A copy agrees with every list that the
-//!   map agrees with, and each goes on alone.
+//!   contents stays shorter than 2^48 bytes. A number, once given to a cache, stays its own. A copy agrees with every list
+//!   that the map agrees with, and each goes on alone. A cache that was destroyed has no extent; and no place is without a
+//!   value, and no extent without its cache, but for what was made ready last (`AreHiddenBy`, specs/Hidden.antt).
 //! Hides: that a place is made ready by an entry without a value, and that sums are kept.
 //! Not here: what an answer or the contents are after a list (cache_model); the store file (store_journal).
 //! Laws: none.
-//! Cost: a get, a put, a remove and a size one look-up by name and one by key, O(log n); `live` and the numbers of caches
-//!   O(1); `entries_from` O(log n) and its items; `contents` all of them, and `count_from` those after its item. `apply` takes no memory. Places that were made
-//!   ready and never used stay until their key is put or removed, or their cache truncated or destroyed; `entries_from`
-//!   and `contents` pass over them, and over caches that were destroyed.
+//! Cost: a get, a put, a remove and a size one look-up by name and one by key, O(log n); `live` O(1); `extent` O(log n) in
+//!   the caches that are there; `entries_from` O(log n) and its items; `contents` and `copy` all of them, and `count_from`
+//!   those after its item. `apply` takes no memory. Reads in order pass over at most 64 places and one extent that show
+//!   nothing: what was made ready and not used goes at the next `ready`.
 #![tactic(auto)]
 
 mod change;

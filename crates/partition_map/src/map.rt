@@ -173,6 +173,8 @@ impl PartitionMap {
     }
 
     /// Makes ready for the mutation, so that `apply` takes no memory. The contents stay, also after an error.
+    ///
+    /// What an earlier call made ready and `apply` didn't use may be taken back: only the last call counts.
     pub fn ready(&mut self, mutation: &Mutation) -> Result<(), AllocError>
         ensures ready { OnOk result (IsReadyFor (change_of mutation.now) self.new) }
         ensures contents { (changes : List Change) → AgreesWith changes self.old → AgreesWith changes self.new }

@@ -4,9 +4,9 @@ use Rattle.std.specs.Cmp.Lexicographic.{slice_cmp}
 use Rattle.std.specs.Map.{lookup}
 use Rattle.std.specs.BTreeMap.{is_at}
 use Rattle.partition_map.specs.Extents.{Extents}
-use Rattle.partition_map.specs.Hidden.{HideOnly}
+use Rattle.partition_map.specs.Hidden.{HideOnlyOf}
 use Rattle.partition_map.proofs.ChangedLemmas.{ShowsAgain-insert}
-use Rattle.partition_map.proofs.HiddenLemmas.{HideOnly-nothing, HideOnly-inserted, lookup-updated}
+use Rattle.partition_map.proofs.HiddenLemmas.{HideOnlyOf-nothing, HideOnlyOf-inserted, lookup-updated}
 use Rattle.partition_map.proofs.change.add_hidden.Goals as goal
 
 pub returns-in_ok-insert-clause-shown : goal.returns-in_ok-insert-clause-shown
@@ -19,14 +19,14 @@ returns-in_ok-insert-clause-hidden c = λ nothing.
     let old = c.args.extents.now.entries in
     let new = c.insert.new.self.entries in
     let name = c.in_ok-copy.field-0 in
-    subst (λ (k : List ℕ). HideOnly k [] new) c.in_ok-copy.ensures (HideOnly-inserted name old new c.empty.result c.empty.ensures.none (lookup-updated name old new (Some c.empty.result) c.in_ok-insert.ensures.updates.0) nothing)
+    subst (λ (k : List ℕ). HideOnlyOf k [] new) c.in_ok-copy.ensures (HideOnlyOf-inserted name old new c.empty.result c.empty.ensures.none (lookup-updated name old new (Some c.empty.result) c.in_ok-insert.ensures.updates.0) nothing)
 
 pub returns-in_err-copy-clause-hidden : goal.returns-in_err-copy-clause-hidden
-returns-in_err-copy-clause-hidden c = HideOnly-nothing c.args.cache.now [] c.args.extents.now.entries
+returns-in_err-copy-clause-hidden c = HideOnlyOf-nothing c.args.cache.now [] c.args.extents.now.entries
 
 pub returns-in_err-insert-clause-hidden : goal.returns-in_err-insert-clause-hidden
 returns-in_err-insert-clause-hidden c = λ nothing.
-    subst (λ (es : Extents). HideOnly c.args.cache.now [] es) (sym c.in_err-insert.ensures.err) (HideOnly-nothing c.args.cache.now [] c.args.extents.now.entries nothing)
+    subst (λ (es : Extents). HideOnlyOf c.args.cache.now [] es) (sym c.in_err-insert.ensures.err) (HideOnlyOf-nothing c.args.cache.now [] c.args.extents.now.entries nothing)
 
 pub returns-else-not-contains_key-clause-hidden : goal.returns-else-not-contains_key-clause-hidden
-returns-else-not-contains_key-clause-hidden c = HideOnly-nothing c.args.cache.now [] c.args.extents.now.entries
+returns-else-not-contains_key-clause-hidden c = HideOnlyOf-nothing c.args.cache.now [] c.args.extents.now.entries

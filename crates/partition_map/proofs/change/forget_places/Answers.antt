@@ -3,11 +3,11 @@ use Rattle.std.specs.Map.{lookup, set_value}
 use Rattle.cache_model.specs.Caches.{same}
 use Rattle.cache_model.proofs.ShownLemmas.{same-is_at}
 use Rattle.partition_map.specs.Extents.{Extents}
-use Rattle.partition_map.specs.Hidden.{HideOnly}
+use Rattle.partition_map.specs.Hidden.{HideOnlyOf}
 use Rattle.partition_map.specs.Place.{HidesOnly}
 use Rattle.partition_map.specs.Written.{ShowsAgain}
 use Rattle.partition_map.proofs.ChangedLemmas.{IsWritten-set_value, ShowsAgain-set_value}
-use Rattle.partition_map.proofs.HiddenLemmas.{HideOnly-written, HideOnly-absent}
+use Rattle.partition_map.proofs.HiddenLemmas.{HideOnlyOf-written, HideOnlyOf-absent}
 use Rattle.partition_map.proofs.change.forget_places.Goals as goal
 
 pub returns-in-Some-clause-shown : goal.returns-in-Some-clause-shown
@@ -27,11 +27,11 @@ returns-in-Some-clause-hidden c = λ only.
     let now = c.forget.new.self in
     let was : lookup (same name) es ≡ Some c.in-Some.extent.now = ap (λ test. lookup test es) (same-is_at name) ∙ sym c.in-Some.ensures.value in
     let entries : (c.get_mut.follows.lender now).entries ≡ set_value (same name) es now = (c.get_mut.follows.holds now).0 ∙ ap (λ test. set_value test es now) (sym (same-is_at name)) in
-    subst (λ (new : Extents). HideOnly name [] new) (sym entries) (HideOnly-written name keys [] es (set_value (same name) es now) c.in-Some.extent.now now was (IsWritten-set_value name es c.in-Some.extent.now now was) (λ were. c.forget.ensures.hidden (subst (λ (ks : List (List ℕ)). HidesOnly ks c.in-Some.extent.now.places) (sym c.as_slice.ensures.value) were)) only)
+    subst (λ (new : Extents). HideOnlyOf name [] new) (sym entries) (HideOnlyOf-written name keys [] es (set_value (same name) es now) c.in-Some.extent.now now was (IsWritten-set_value name es c.in-Some.extent.now now was) (λ were. c.forget.ensures.hidden (subst (λ (ks : List (List ℕ)). HidesOnly ks c.in-Some.extent.now.places) (sym c.as_slice.ensures.value) were)) only)
 
 pub returns-in-None-clause-hidden : goal.returns-in-None-clause-hidden
 returns-in-None-clause-hidden c = λ only.
     let name = c.args.readied.now.cache in
     let es = c.args.extents.now.entries in
     let none : lookup (same name) es ≡ None = ap (λ test. lookup test es) (same-is_at name) ∙ sym c.in-None.ensures.value in
-    subst (λ (new : Extents). HideOnly name [] new) (sym (ap (λ m. m.entries) c.get_mut.follows.holds-at-none)) (HideOnly-absent name c.args.readied.now.keys.items [] es none only)
+    subst (λ (new : Extents). HideOnlyOf name [] new) (sym (ap (λ m. m.entries) c.get_mut.follows.holds-at-none)) (HideOnlyOf-absent name c.args.readied.now.keys.items [] es none only)

@@ -6,11 +6,11 @@ use Rattle.cache_model.specs.Change.{change_of}
 use Rattle.cache_model.proofs.ContentsLemmas.{same-itself}
 use Rattle.cache_model.proofs.ShownLemmas.{same-is_at}
 use Rattle.partition_map.specs.Extents.{Extents}
-use Rattle.partition_map.specs.Hidden.{keys_put, HideOnly}
+use Rattle.partition_map.specs.Hidden.{keys_put, HideOnlyOf}
 use Rattle.partition_map.specs.Order.{cache_changed}
 use Rattle.partition_map.specs.Written.{ShowsAgain}
 use Rattle.partition_map.proofs.ChangedLemmas.{IsWritten-set_value, ShowsAgain-set_value, ShowsAgain-chain}
-use Rattle.partition_map.proofs.HiddenLemmas.{HideOnly-written, HideOnly-more}
+use Rattle.partition_map.proofs.HiddenLemmas.{HideOnlyOf-written, HideOnlyOf-more}
 use Rattle.partition_map.proofs.change.ready_extent.Goals as goal
 
 pub returns-in-Some-clause-ready : goal.returns-in-Some-clause-ready
@@ -40,5 +40,5 @@ returns-in-Some-clause-hidden c = λ nothing.
     let now = c.ready.new.self in
     let was : lookup (same name) es ≡ Some c.in-Some.extent.now = ap (λ k. lookup (same k) es) (sym c.named-2.ensures) ∙ ap (λ test. lookup test es) (same-is_at c.named-2.result.now) ∙ sym c.in-Some.ensures.value in
     let entries : (c.get_mut.follows.lender now).entries ≡ set_value (same name) es now = (c.get_mut.follows.holds now).0 ∙ ap (λ test. set_value test es now) (sym (same-is_at c.named-2.result.now)) ∙ ap (λ k. set_value (same k) es now) c.named-2.ensures in
-    let only : HideOnly name [] es = subst (λ (k : List ℕ). HideOnly k [] es) c.named.ensures (c.add_hidden.ensures.hidden nothing) in
-    subst (λ (new : Extents). HideOnly name keys new) (sym entries) (HideOnly-written name [] keys es (set_value (same name) es now) c.in-Some.extent.now now was (IsWritten-set_value name es c.in-Some.extent.now now was) c.ready.ensures.hidden only)
+    let only : HideOnlyOf name [] es = subst (λ (k : List ℕ). HideOnlyOf k [] es) c.named.ensures (c.add_hidden.ensures.hidden nothing) in
+    subst (λ (new : Extents). HideOnlyOf name keys new) (sym entries) (HideOnlyOf-written name [] keys es (set_value (same name) es now) c.in-Some.extent.now now was (IsWritten-set_value name es c.in-Some.extent.now now was) c.ready.ensures.hidden only)

@@ -1,10 +1,13 @@
 -- What was found of the two files, over what the disk tells.
-use Rattle.std.proofs.Common.{◌≡◌, ◌≢◌, ◌⊎◌, inl, inr, ℕ, ◌-◌, ◌≤◌, List, Option, Result, Ok, Err, IfOk, IsErrOf, refl, sym, ◌∙◌, ap, subst, arith}
+use Rattle.std.proofs.Common.{◌≡◌, ◌≢◌, ◌⊎◌, inl, inr, ℕ, ◌-◌, ◌≤◌, List, Bool, true, false, Option, Result, Ok, Err, IfOk, IsErrOf, refl, sym, ◌∙◌, ap, subst, arith}
+use Rattle.std.proofs.lemmas.Bool.{false≢true}
 use Rattle.cache_key.specs.declared.request.Mutation.{Mutation}
 use Rattle.cache_model.specs.Change.{Change}
 use Rattle.disk_trait.specs.View.{View, Tells}
 use Rattle.disk_trait.specs.Calls.{Moved, Rose}
 use Rattle.disk_trait.specs.Moments.{Now, After, Throughout}
+use Rattle.disk_trait.specs.declared.DiskRefusal.{DiskRefusal}
+use Rattle.disk_trait.specs.declared.DiskRefusal.TheVariants as refusals
 use Rattle.disk_trait.proofs.Runs.{elsewhere, holds_now}
 use Rattle.record_form.specs.declared.header.Header.{Header}
 use Rattle.seal_gate.specs.Seal.{IsSealed, ButFirst, IsSettled, Each}
@@ -17,7 +20,7 @@ use Rattle.store_journal.specs.declared.fault.LoadFault.{LoadFault}
 use Rattle.store_journal.specs.declared.fault.LoadFault.TheVariants as faults
 use Rattle.store_journal.specs.declared.store.Store.{Store}
 use Rattle.newest_store.specs.Newest.{IsHeaded, HasStore, IsNewest, IsNewestStore, IsOpened}
-use Rattle.newest_store.specs.Search.{fault_in, IsSearchFault, IsOpeningFault, IsNewestLoaded}
+use Rattle.newest_store.specs.Search.{fault_in, disk_fault, IsSearchFault, IsOpeningFault, IsNewestLoaded}
 use Rattle.newest_store.specs.declared.fault.NewestFault.{NewestFault}
 use Rattle.newest_store.specs.declared.fault.NewestFault.TheVariants.{NoStore, Damaged, Failed, NoMemory}
 use Rattle.newest_store.proofs.NewestLemmas.{file_cases, identified_is_headed, undamaged}
@@ -34,6 +37,22 @@ search_fails a b partition partitions NoStore is = is
 search_fails a b partition partitions (Damaged file offset) is = λ tells. let found = is.1 tells in record { one_of_two = is.0; first = inl (found.0, found.1) }
 search_fails a b partition partitions Failed is = is
 search_fails a b partition partitions NoMemory is = tt
+
+-- a refusal of the disk says nothing of what the files hold
+pub disk_fault-cases : (refusal : DiskRefusal) → (disk_fault refusal ≡ Failed) ⊎ (disk_fault refusal ≡ NoMemory)
+disk_fault-cases refusals.Failed = inl refl
+disk_fault-cases refusals.NoMemory = inr refl
+
+-- whether a fault is damage
+abbrev is_damage : NewestFault → Bool
+is_damage NoStore = false
+is_damage (Damaged file at) = true
+is_damage Failed = false
+is_damage NoMemory = false
+
+pub disk_fault-undamaged : (refusal : DiskRefusal) (file at : ℕ) → disk_fault refusal ≡ Damaged file at → ⊥
+disk_fault-undamaged refusals.Failed file at is = false≢true (ap is_damage is)
+disk_fault-undamaged refusals.NoMemory file at is = false≢true (ap is_damage is)
 
 -- the newest file can't be loaded
 pub load_fails : (X : Type 0) (r : Result X LoadFault) (a b c : View) (partition partitions file : ℕ) (fault : LoadFault) → r ≡ Err fault → OnlyReads a b

@@ -1,10 +1,11 @@
 use Rattle.std.proofs.Common.{◌≡◌, ◌⊎◌, sym, ◌∙◌, subst}
 use Rattle.std.proofs.lemmas.Result.{err_from_is_err_and}
+use Rattle.newest_store.specs.Search.{disk_fault}
 use Rattle.newest_store.specs.declared.fault.NewestFault.{NewestFault}
-use Rattle.newest_store.specs.declared.fault.NewestFault.TheVariants.{Failed, NoMemory}
+use Rattle.newest_store.specs.declared.fault.NewestFault.TheVariants.{Damaged, Failed, NoMemory}
 use Rattle.store_journal.proofs.ContentsLemmas.{contents_as}
 use Rattle.newest_store.proofs.NewestLemmas.{store_contents, newest_undamaged}
-use Rattle.newest_store.proofs.SearchLemmas.{reads_told, clear_told, whole_is_found, newest_loaded, one_is_left}
+use Rattle.newest_store.proofs.SearchLemmas.{disk_fault-cases, disk_fault-undamaged, reads_told, clear_told, whole_is_found, newest_loaded, one_is_left}
 use Rattle.newest_store.proofs.ClearingLemmas.{while_loaded, while_older, erasing_survives, erasing_unsealed}
 use Rattle.newest_store.proofs.opening.load_newest.Goals as goal
 
@@ -21,6 +22,20 @@ returns-in_err-loaded-clause-moments g c = while_loaded _ _ c.load_found.ensures
 
 pub returns-in_err-loaded-clause-spoiled : goal.returns-in_err-loaded-clause-spoiled
 returns-in_err-loaded-clause-spoiled g c file at tells damaged = (c.load_found.ensures.reads_only.same, c.load_found.ensures.reads_only.moments)
+
+pub returns-in_err-clear-clause-damaged : goal.returns-in_err-clear-clause-damaged
+returns-in_err-clear-clause-damaged g c file at is tells =
+    let p = err_from_is_err_and c.from_residual-in_err-clear.result c.from_residual-in_err-clear.ensures.1 in
+    let also = sym p.1 ∙ is in
+    let same : disk_fault c.in_err-clear.field-0.0 ≡ Damaged file at = cc in
+    absurd (disk_fault-undamaged c.in_err-clear.field-0.0 file at same)
+
+pub returns-in_err-clear-clause-whole : goal.returns-in_err-clear-clause-whole
+returns-in_err-clear-clause-whole g c file id changes fault is now tells =
+    let p = err_from_is_err_and c.from_residual-in_err-clear.result c.from_residual-in_err-clear.ensures.1 in
+    let also = sym p.1 ∙ is in
+    let same : disk_fault c.in_err-clear.field-0.0 ≡ fault = cc in
+    subst (λ (f : NewestFault). (f ≡ Failed) ⊎ (f ≡ NoMemory)) same (disk_fault-cases c.in_err-clear.field-0.0)
 
 pub returns-in_err-clear-clause-spoiled : goal.returns-in_err-clear-clause-spoiled
 returns-in_err-clear-clause-spoiled g c file at tells damaged = absurd (newest_undamaged _ _ _ _ _ file at (newest_loaded _ _ _ _ _ _ c.in_ok-loaded.ensures.loaded.so tells) damaged)

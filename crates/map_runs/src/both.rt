@@ -28,6 +28,27 @@ impl Both {
         }
     }
 
+    /// A copy of both.
+    pub(crate) fn copy(&self, rt: &impl Abort) -> Self {
+        let mut mutations = Vec::new(self.alloc);
+        for mutation in &self.mutations {
+            let copied = mutation.copy().expect(rt, "a copy");
+            mutations.push(copied).expect(rt, "memory");
+        }
+        let mut names = Vec::new(self.alloc);
+        for name in &self.names {
+            let copied = name.copy().expect(rt, "a copy");
+            names.push(copied).expect(rt, "memory");
+        }
+        Both {
+            map: self.map.copy(self.alloc).expect(rt, "a copy"),
+            mutations,
+            names,
+            pools: self.pools,
+            alloc: self.alloc,
+        }
+    }
+
     /// Both carry the request out, and reply the same.
     pub(crate) fn run(&mut self, rt: &impl Abort, request: Request) {
         self.expect_reply(rt, &request);

@@ -1,4 +1,4 @@
-//! Scripts of requests by chance, and the number that a cache keeps.
+//! Scripts of requests by chance, copies, and the number that a cache keeps.
 use crate::both::Both;
 use crate::chance::{Chance, Pools, cache};
 use cache_key::Mutation;
@@ -67,6 +67,23 @@ fn what_was_made_ready_shows_nowhere(rt: HostRuntime) {
     make_ready(&rt, &mut both.map, &mut chance, 100);
     assert_eq!(rt; both.map.live(), 42);
     both.expect_agree(&rt);
+}
+
+#[test]
+fn a_copy_goes_its_own_way(rt: HostRuntime) {
+    let mut both = Both::empty(rt.alloc(), FEW);
+    let mut chance = Chance::new(rt.alloc(), 4, FEW);
+    for _ in 0..8 {
+        run(&rt, &mut both, &mut chance, 10);
+        make_ready(&rt, &mut both.map, &mut chance, 2);
+        let mut copied = both.copy(&rt);
+        copied.expect_agree(&rt);
+        run(&rt, &mut both, &mut chance, 5);
+        copied.expect_agree(&rt);
+        run(&rt, &mut copied, &mut chance, 5);
+        both.expect_agree(&rt);
+        both = copied;
+    }
 }
 
 // The caches that are ensured or destroyed, and the numbers of the first two then.

@@ -1,11 +1,10 @@
 -- Laws of hidden places, and of extents of caches that aren't there.
-use Rattle.std.proofs.Common.{◌≡◌, ℕ, ◌+◌, List, [], ◌∷◌, Bool, true, false, cond, ◌||◌, Option, Some, None, option_and_then, option_map, is_some, ap, ◌∙◌, sym, refl, subst, arith}
+use Rattle.std.proofs.Common.{◌≡◌, ℕ, List, [], ◌∷◌, Bool, true, false, cond, ◌||◌, Option, Some, None, option_and_then, option_map, ap, ◌∙◌, sym, refl, subst, arith}
 use Rattle.std.specs.Ordering.{nat_cmp}
 use Rattle.std.specs.Cmp.Lexicographic.{slice_cmp, texts_ties, bytes_decides, nat_list_eq_equiv}
 use Rattle.std.specs.List.{AllByRecursion, cons_option, list_any}
 use Rattle.std.specs.Map.{lookup, keys_of, remove_entry}
 use Rattle.std.specs.BTreeMap.{is_at}
-use Rattle.std.specs.List.Sorted.{IsStrictlySortedBy}
 use Rattle.std.proofs.lemmas.Bool.{false≢true}
 use Rattle.cache_model.specs.Caches.{same, Pairs}
 use Rattle.cache_model.specs.Contents.{IsRising}
@@ -13,9 +12,9 @@ use Rattle.cache_model.proofs.ContentsLemmas.{same-itself}
 use Rattle.cache_model.proofs.ShownLemmas.{same-is_at}
 use Rattle.partition_map.specs.declared.extent.Extent.{Extent}
 use Rattle.partition_map.specs.declared.readied.Readied.{Readied}
-use Rattle.partition_map.specs.Extents.{Extents, extent_shown, caches_in, IsWhole}
+use Rattle.partition_map.specs.Extents.{Extents, extent_shown, caches_in}
 use Rattle.partition_map.specs.Hidden.{HidesHere, HideNothing, HideOnlyOf, AreHiddenBy, if_there, IsLeftThere}
-use Rattle.partition_map.specs.Place.{PlaceList, value_at, is_hidden, hides, HidesOnly, HidesNoMore, SameValues, place_count, place_bytes, value_count, value_bytes}
+use Rattle.partition_map.specs.Place.{PlaceList, is_hidden, hides, HidesOnly, HidesNoMore, SameValues, place_count, place_bytes, value_count, value_bytes}
 use Rattle.partition_map.specs.Written.{ShowsAgain}
 use Rattle.partition_map.proofs.ChangedLemmas.{AreWhole, IsWritten, presence_held, hidden_first}
 use Rattle.partition_map.proofs.SumLemmas.{weight, total-remove}

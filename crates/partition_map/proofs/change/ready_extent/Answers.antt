@@ -10,7 +10,7 @@ use Rattle.partition_map.specs.Hidden.{keys_put, HideOnlyOf}
 use Rattle.partition_map.specs.Order.{cache_changed}
 use Rattle.partition_map.specs.Written.{ShowsAgain}
 use Rattle.partition_map.proofs.ChangedLemmas.{IsWritten-set_value, ShowsAgain-set_value, ShowsAgain-chain}
-use Rattle.partition_map.proofs.HiddenLemmas.{HideOnlyOf-written, HideOnlyOf-more}
+use Rattle.partition_map.proofs.HiddenLemmas.{HideOnlyOf-written}
 use Rattle.partition_map.proofs.change.ready_extent.Goals as goal
 
 pub returns-in-Some-clause-ready : goal.returns-in-Some-clause-ready

@@ -2,7 +2,7 @@ use Rattle.std.proofs.Common.{◌≡◌, ℕ, List, ◌∷◌, [], true, length,
 use Rattle.std.specs.List.{AllByRecursion, list_any}
 use Rattle.std.specs.Map.{keys_of}
 use Rattle.std.proofs.lemmas.Result.{on_ok_weaker}
-use Rattle.cache_model.specs.Caches.{same, Pairs}
+use Rattle.cache_model.specs.Caches.{same}
 use Rattle.cache_model.specs.Change.{change_of}
 use Rattle.partition_map.specs.Extents.{pair_bytes}
 use Rattle.partition_map.specs.Hidden.{keys_put}

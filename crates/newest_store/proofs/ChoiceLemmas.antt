@@ -1,5 +1,5 @@
 -- Which store counts of several hosts' stores.
-use Rattle.std.proofs.Common.{◌≡◌, ◌≢◌, ◌⊎◌, inl, inr, ⊎_elim, ℕ, suc, ◌+◌, ◌<◌, ◌≤◌, List, [], ◌∷◌, ◌++◌, take, drop, get_or, length, slice_get, slice_set, length-set, Option, None, Some, refl, sym, ◌∙◌, ap, subst, arith}
+use Rattle.std.proofs.Common.{◌≡◌, inl, inr, ⊎_elim, ℕ, suc, ◌+◌, ◌<◌, ◌≤◌, List, [], ◌∷◌, ◌++◌, take, drop, get_or, length, slice_get, slice_set, length-set, Option, Some, refl, sym, ◌∙◌, ap, subst, arith}
 use Rattle.std.specs.Prelude.{Contains}
 use Rattle.std.specs.Option.{option_map_or}
 use Rattle.std.proofs.lemmas.List.Elements.{Contains-append_left, Contains-append_right, Contains-push, Contains-push_cases}
@@ -7,9 +7,8 @@ use Rattle.std.proofs.lemmas.Bool.{cases_eq}
 use Rattle.std.proofs.lemmas.List.{take_more}
 use Rattle.std.proofs.lemmas.Option.{slice_get_within}
 use Rattle.std.proofs.Math.Seq.{split_at}
-use Rattle.disk_lane.specs.Lanes.{LaneImage, OnHost, HasFailedOn}
+use Rattle.disk_lane.specs.Lanes.{LaneImage, HasFailedOn}
 use Rattle.disk_lane.proofs.LaneLemmas.{written_same, written_other, some_same, disk_there}
-use Rattle.disk_trait.specs.Calls.{Rose}
 use Rattle.disk_trait.specs.View.{Image, View, Tells}
 use Rattle.disk_trait.proofs.Runs.{started, joined, weakened, same_none, onward_none, onward_joined}
 use Rattle.seal_gate.specs.Seal.{IsSealed}
@@ -18,7 +17,7 @@ use Rattle.store_journal.specs.Created.{IsUnsealed}
 use Rattle.store_journal.specs.Loading.{IsIdentified, IsUnidentifiedAt, OnlyReads}
 use Rattle.store_journal.specs.Stands.{version_in}
 use Rattle.newest_store.specs.Newest.{IsHeaded, IsNewest}
-use Rattle.newest_store.specs.Choice.{seen_on, AllTell, AllSpare, OnlyReadsLane, Precedes, CountsBefore, IsNewestAmong, IsChosen, AreHeaded, IsOneOf, IsFirstUnheaded, IsChoiceFault, IsFileFault, IsHostFault, IsHostChoice}
+use Rattle.newest_store.specs.Choice.{seen_on, AllTell, AllSpare, OnlyReadsLane, Precedes, CountsBefore, IsNewestAmong, IsChosen, AreHeaded, IsOneOf, IsChoiceFault, IsFileFault, IsHostFault, IsHostChoice}
 use Rattle.newest_store.specs.declared.choice.Choice.{Choice}
 use Rattle.newest_store.specs.declared.choice.Choice.TheVariants.{One, NoStore}
 use Rattle.newest_store.specs.declared.choice.ChoiceFault.{ChoiceFault}

@@ -1,5 +1,5 @@
 -- What was found of the two files, over what the disk tells.
-use Rattle.std.proofs.Common.{◌≡◌, ◌≢◌, ◌⊎◌, inl, inr, ℕ, ◌-◌, ◌≤◌, List, Bool, true, false, Option, Result, Ok, Err, IfOk, IsErrOf, refl, sym, ◌∙◌, ap, subst, arith}
+use Rattle.std.proofs.Common.{◌≡◌, ◌≢◌, ◌⊎◌, inl, inr, ℕ, ◌-◌, ◌≤◌, List, Bool, true, false, Option, Result, Ok, Err, IfOk, IsErrOf, refl, sym, ap, subst, arith}
 use Rattle.std.proofs.lemmas.Bool.{false≢true}
 use Rattle.cache_key.specs.declared.request.Mutation.{Mutation}
 use Rattle.cache_model.specs.Change.{Change}
@@ -15,7 +15,7 @@ use Rattle.store_ident.specs.declared.ident.StoreId.{StoreId}
 use Rattle.store_journal.specs.AtRest.{IsKeptIn}
 use Rattle.store_journal.specs.Created.{IsUnsealed}
 use Rattle.store_journal.specs.Fault.{IsDamagedAt}
-use Rattle.store_journal.specs.Loading.{IsIdentified, IsUnidentifiedAt, OnlyReads}
+use Rattle.store_journal.specs.Loading.{IsIdentified, OnlyReads}
 use Rattle.store_journal.specs.declared.fault.LoadFault.{LoadFault}
 use Rattle.store_journal.specs.declared.fault.LoadFault.TheVariants as faults
 use Rattle.store_journal.specs.declared.store.Store.{Store}

@@ -1,5 +1,5 @@
 use Rattle.std.proofs.Common.{refl}
-use Rattle.newest_store.proofs.ChoiceLemmas.{one_so_far, one_more, picks_own, picks_best, picks_only}
+use Rattle.newest_store.proofs.ChoiceLemmas.{one_more, picks_own, picks_best, picks_only}
 use Rattle.newest_store.proofs.choice.chosen_of.Goals as goal
 
 pub returns-in-NoStore-default-clause-one_of : goal.returns-in-NoStore-default-clause-one_of

@@ -1,4 +1,4 @@
-use Rattle.std.proofs.Common.{rules, ◌≤◌, List, ℕ, length, take, subst, sym, arith}
+use Rattle.std.proofs.Common.{rules, ◌≤◌, List, ℕ, length, take, subst, arith}
 use Rattle.std.proofs.lemmas.List.{take_all}
 use Rattle.std.proofs.lemmas.List.Elements.{Contains-get_or}
 use Rattle.disk_trait.specs.View.{View}

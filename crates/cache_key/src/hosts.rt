@@ -1,5 +1,6 @@
 //! A list of names of hosts.
 ghost use Rattle.std.specs.Prelude.{◌≡◌, ◌≤◌, ◌<◌, ◌^◌, ◌↔◌, ◌++◌, ◌∷◌, [], length, slice_get, All, IfOk, IsNone, OnOk, OnErr, nat_eq};
+ghost use Rattle.std.specs.List.{remove};
 ghost use Rattle.std.specs.Option.{option_copied};
 ghost use Rattle.std.specs.Cmp.{partial_equiv_from_equiv};
 ghost use Rattle.std.specs.Cmp.Lexicographic.{pointwise, nat_list_eq_equiv, lists_equiv};
@@ -67,6 +68,14 @@ impl HostList {
         push_host(&mut self.hosts, host)
     }
 
+    /// Takes out the host with this index, from 0, if there are so many; the others stay in their order. Takes no memory.
+    pub fn remove(&mut self, index: u32) -> Option<HostName>
+        ensures host { result ≡ slice_get self.old index }
+        ensures others { self.new ≡ remove self.old index }
+    {
+        remove_host(&mut self.hosts, index)
+    }
+
     /// Makes an equal one. Takes memory.
     pub fn copy(&self) -> Result<Self, AllocError>
         ensures { IfOk result (λ copied. copied ≡ self.now) }
@@ -91,6 +100,19 @@ fn push_host(hosts: &mut Vec<HostName>, host: HostName) -> Result<(), AllocError
     let _host = host.text();
     hosts.push(host)?;
     Ok(())
+}
+
+// Takes out the host with this index, if there are so many.
+fn remove_host(hosts: &mut Vec<HostName>, index: u32) -> Option<HostName>
+    ensures host { result ≡ slice_get hosts.old.items index }
+    ensures others { hosts.new.items ≡ remove hosts.old.items index }
+    ensures fewer { length hosts.new.items ≤ length hosts.old.items }
+    ensures limits { All IsName hosts.old.items → All IsName hosts.new.items }
+{
+    if index as usize >= hosts.len() {
+        return None;
+    }
+    Some(hosts.remove(index as usize))
 }
 
 // The same hosts once more.

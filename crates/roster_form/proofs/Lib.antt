@@ -1,3 +1,4 @@
+pub mod ContainsLemmas
 pub mod NamesLemmas
 pub mod RosterTextLemmas
 pub mod ShownLemmas

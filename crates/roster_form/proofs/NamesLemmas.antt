@@ -1,13 +1,12 @@
 -- The names of a roster's file: those that have no fault are spelled there, and those that are spelled have none.
-use Rattle.std.proofs.Common.{◌≡◌, ◌⊎◌, ℕ, zero, suc, ◌+◌, ◌-◌, ◌<◌, ◌≤◌, Bool, true, false, cond, ◌&&◌, nat_lt, nat_le, List, [], ◌∷◌, ◌++◌, length, take, drop, All, Option, None, Some, refl, sym, ap, ◌∙◌, subst, arith, inl, inr, append_assoc, length-append}
+use Rattle.std.proofs.Common.{◌≡◌, ℕ, zero, suc, ◌+◌, ◌-◌, ◌<◌, ◌≤◌, Bool, true, false, cond, nat_lt, nat_le, List, [], ◌∷◌, ◌++◌, length, take, drop, All, Option, None, Some, refl, sym, ap, ◌∙◌, arith, append_assoc, length-append}
 use Rattle.std.specs.Ordering.{nat_cmp, is_lt}
 use Rattle.std.proofs.Common.{Ordering, Less, Equal, Greater}
-use Rattle.std.specs.Cmp.{IsTotalOrder}
 use Rattle.std.specs.Cmp.Lexicographic.{slice_cmp}
 use Rattle.std.specs.List.{AllByRecursion}
 use Rattle.std.specs.List.Sorted.{IsStrictlySortedBy}
 use Rattle.std.proofs.Math.Nat.{mod-eq_of_lt}
-use Rattle.std.proofs.lemmas.Bool.{ltb-true, ltb-false, leb-true, lt-ltb, le-leb, le-ltb}
+use Rattle.std.proofs.lemmas.Bool.{ltb-false, leb-true, le-leb, le-ltb}
 use Rattle.std.proofs.lemmas.Cmp.{nat_list_cmp_total}
 use Rattle.std.proofs.lemmas.List.{take-append-drop, take_at, drop_at, length-take, length-drop, drop-drop, drop_more, drop_all, take_all, append-nil}
 use Rattle.std.proofs.lemmas.List.Elements.{All-tail, All-cons, All-append}
@@ -16,7 +15,7 @@ use Rattle.byte_fields.specs.Numbers as numbers
 use Rattle.byte_fields.specs.Numbers.{bytes_of}
 use Rattle.byte_fields.specs.Counted.{counted8_text}
 use Rattle.byte_fields.proofs.CountedLemmas.{counted_text-injective, length-counted_text}
-use Rattle.cache_key.specs.Names.{IsName, IsNameByte, most_name_bytes, is_between}
+use Rattle.cache_key.specs.Names.{IsName, most_name_bytes, is_between}
 use Rattle.cache_model.specs.Contents.{IsRising}
 use Rattle.record_form.specs.Characters.{name_prefix_length}
 use Rattle.record_form.proofs.HeaderLemmas.{both_true, are_both}

@@ -1,7 +1,7 @@
 -- A roster's file has no fault, and what has none is a roster's file.
-use Rattle.std.proofs.Common.{◌≡◌, ◌≢◌, ◌⊎◌, ⊎_elim, ℕ, zero, suc, ◌+◌, ◌*◌, ◌^◌, ◌<◌, ◌≤◌, Bool, true, false, cond, ◌&&◌, ◌||◌, nat_lt, nat_le, List, [], ◌∷◌, ◌++◌, length, take, drop, get_or, All, Option, None, Some, Result, Ok, Err, IfOk, refl, sym, ap, ◌∙◌, subst, arith, inl, inr, append_assoc, length-append}
+use Rattle.std.proofs.Common.{◌≡◌, ◌⊎◌, ⊎_elim, ℕ, ◌+◌, ◌*◌, ◌^◌, ◌<◌, ◌≤◌, Bool, true, false, cond, ◌&&◌, ◌||◌, nat_lt, List, [], ◌∷◌, ◌++◌, length, take, drop, All, Option, None, Some, refl, sym, ap, ◌∙◌, subst, arith, inl, inr}
 use Rattle.std.specs.Prelude.{◌==◌}
-use Rattle.std.proofs.lemmas.Bool.{cases_eq, ltb-true, ltb-false, leb-true, lt-ltb, le-leb, le-ltb, eqb-true}
+use Rattle.std.proofs.lemmas.Bool.{ltb-true, ltb-false, leb-true, lt-ltb, le-leb, le-ltb, eqb-true}
 use Rattle.std.proofs.lemmas.List.{take-append-drop, append-nil}
 use Rattle.byte_fields.specs.Numbers as numbers
 use Rattle.byte_fields.specs.Numbers.{big_endian, bytes_of, bytes8, bytes16, bytes32, bytes64, number_in}
@@ -11,7 +11,7 @@ use Rattle.cache_key.specs.Names.{IsName}
 use Rattle.record_form.proofs.HeaderLemmas.{spelled_on, number_again, both_true, are_both, AreBytes-take}
 use Rattle.roster_form.specs.Membership.{Host, most_hosts, epoch_end, MayJoin, IsRoster}
 use Rattle.roster_form.specs.RosterText.{roster_magic, roster_format, none_joining, joining_byte, roster_head, names_text, roster_file, IsRosterText}
-use Rattle.roster_form.specs.RosterFault.{is_epoch, is_joining, is_host_count, are_zeros, head_fields, first_wrong_field, names_fault, fault_or, roster_fault, joining_in}
+use Rattle.roster_form.specs.RosterFault.{is_epoch, is_joining, is_host_count, head_fields, first_wrong_field, names_fault, fault_or, roster_fault, joining_in}
 use Rattle.roster_form.specs.declared.head.HeadField.{HeadField}
 use Rattle.roster_form.specs.declared.roster.Roster.{Roster}
 use Rattle.roster_form.proofs.NamesLemmas.{one_byte, none_or, rising-from_each, rises_from_none, AreSpelled, names_found, names_again, names_text-injective}

@@ -1,13 +1,14 @@
 -- What an image of a service disk shows, also while a roster is written to it.
-use Rattle.std.proofs.Common.{◌≡◌, ◌≢◌, ◌⊎◌, inl, inr, ⊎_elim, ℕ, ◌+◌, ◌<◌, ◌≤◌, List, [], ◌∷◌, ◌++◌, length, take, drop, get_or, Option, Some, None, refl, sym, ◌∙◌, ap, subst, arith}
+use Rattle.std.proofs.Common.{◌≡◌, ◌≢◌, ◌⊎◌, inl, inr, ⊎_elim, ℕ, ◌<◌, ◌≤◌, List, ◌∷◌, get_or, Option, Some, None, refl, sym, ◌∙◌, ap, subst, arith}
 use Rattle.std.proofs.lemmas.Bool.{cases_eq}
-use Rattle.disk_trait.specs.View.{Image, View}
+use Rattle.disk_trait.specs.View.{Image}
 use Rattle.seal_gate.specs.Seal.{IsSealed}
 use Rattle.store_journal.specs.Created.{IsUnsealed}
 use Rattle.store_journal.specs.Stands.{version_in}
 use Rattle.newest_store.specs.Newest.{IsNewest}
 use Rattle.newest_store.proofs.NewestLemmas.{newest_once}
-use Rattle.roster_form.specs.Membership.{IsIn}
+use Rattle.std.specs.Prelude.{Contains}
+use Rattle.roster_form.proofs.ContainsLemmas.{contains_first, contains_later}
 use Rattle.roster_form.specs.RosterText.{IsRosterText}
 use Rattle.roster_form.specs.Shown.{Shows, ShowsOneOf, IsOther, IsEarlier, FileShows, IsWritingOver}
 use Rattle.roster_form.specs.declared.roster.Roster.{Roster}
@@ -57,13 +58,13 @@ writing_shows roster file other sights m is = go is.shown is.listed is.earlier i
     bare : IsUnsealed (m file) → IsUnsealed (m other) → (f : ℕ) → f ≤ 1 → IsUnsealed (m f)
     bare here there f within = ⊎_elim (λ e. subst (λ (k : ℕ). IsUnsealed (m k)) (sym e) here) (λ e. subst (λ (k : ℕ). IsUnsealed (m k)) (sym e) there) (of_two file other f is.two within)
 
-    go : (shown : Option Roster) → IsIn shown sights → IsEarlier shown roster → FileShows (m other) shown → IsUnsealed (m file) ⊎ IsNewest m other ⊎ IsRosterText roster (m file) → ShowsOneOf (Some roster ∷ sights) m
-    go None listed earlier there (inl here) = (None, bare here there, inr listed)
+    go : (shown : Option Roster) → Contains sights shown → IsEarlier shown roster → FileShows (m other) shown → IsUnsealed (m file) ⊎ IsNewest m other ⊎ IsRosterText roster (m file) → ShowsOneOf (Some roster ∷ sights) m
+    go None listed earlier there (inl here) = (None, bare here there, contains_later (Some roster) sights None listed)
     go None listed earlier there (inr (inl newest)) = absurd (there newest.sealed)
-    go None listed earlier there (inr (inr text)) = (Some roster, (file, becomes_newest m file other is.two (text_is_sealed roster (m file) text) (λ sealed. absurd (there sealed)), text), inl refl)
+    go None listed earlier there (inr (inr text)) = (Some roster, (file, becomes_newest m file other is.two (text_is_sealed roster (m file) text) (λ sealed. absurd (there sealed)), text), contains_first (Some roster) sights)
     go (Some shown) listed earlier there (inl here) =
-        (Some shown, (other, becomes_newest m other file (other_way file other is.two) (text_is_sealed shown (m other) there) (λ sealed. absurd (here sealed)), there), inr listed)
-    go (Some shown) listed earlier there (inr (inl newest)) = (Some shown, (other, newest, there), inr listed)
+        (Some shown, (other, becomes_newest m other file (other_way file other is.two) (text_is_sealed shown (m other) there) (λ sealed. absurd (here sealed)), there), contains_later (Some roster) sights (Some shown) listed)
+    go (Some shown) listed earlier there (inr (inl newest)) = (Some shown, (other, newest, there), contains_later (Some roster) sights (Some shown) listed)
     go (Some shown) listed earlier there (inr (inr text)) = (
       Some roster,
       (
@@ -74,15 +75,15 @@ writing_shows roster file other sights m is = go is.shown is.listed is.earlier i
             omega (arith, a, b, earlier)),
         text,
       ),
-      inl refl,
+      contains_first (Some roster) sights,
     )
 
 -- a write begins: the file isn't sealed, or the other is the newest
-pub writing_begins : (roster : Roster) (file other : ℕ) (sights : List (Option Roster)) (m : Image) → IsOther file other → (IsSealed (m file) → IsNewest m other) → ((shown : Option Roster) → IsIn shown sights → IsEarlier shown roster) → ShowsOneOf sights m
+pub writing_begins : (roster : Roster) (file other : ℕ) (sights : List (Option Roster)) (m : Image) → IsOther file other → (IsSealed (m file) → IsNewest m other) → ((shown : Option Roster) → Contains sights shown → IsEarlier shown roster) → ShowsOneOf sights m
     → IsWritingOver roster file other sights m
 writing_begins roster file other sights m two free earlier shows = go shows.0 shows.1 shows.2
   where
-    go : (shown : Option Roster) → Shows m shown → IsIn shown sights → IsWritingOver roster file other sights m
+    go : (shown : Option Roster) → Shows m shown → Contains sights shown → IsWritingOver roster file other sights m
     go None none listed = record { two = two; shown = None; listed = listed; earlier = tt; there = none other two.2; here = inl (none file two.1) }
     go (Some shown) is listed =
         let newest : IsNewest m other = ⊎_elim

@@ -1,13 +1,15 @@
 -- What keeps the rosters: beginning a change, one write, the end of a change, a change that nobody saw, a stop, an erasure.
 use Rattle.std.proofs.Common.{◌≡◌, ◌⊎◌, inl, inr, ⊎_elim, ◌<◌, ◌≤◌, Bool, true, false, List, [], ◌∷◌, Option, Some, None, refl, sym, ◌∙◌, ap, subst, arith}
+use Rattle.std.specs.Prelude.{Contains}
 use Rattle.std.specs.Cmp.Lexicographic.{bytes_decides}
 use Rattle.cache_model.specs.Caches.{same}
-use Rattle.roster_form.specs.Membership.{Host, IsIn, joining_host}
+use Rattle.roster_form.specs.Membership.{Host}
 use Rattle.roster_form.specs.declared.roster.Roster.{Roster}
 use Rattle.roster_form.specs.Shown.{Sights, MayShow}
 use Rattle.roster_form.specs.Choice.{Sighting, MayOpenBy}
 use Rattle.roster_form.specs.Succession.{Succeeds, HasMember, IsGoodRoster, AreSuccessive, Rosters, listed_with, listed, first_listed, last_finished, IsInFirst, IsGivenTo, KeepsRosters, IsNextHost, IsShownByAll, ShowsNoMore, ShowsAlso, without_writing}
 use Rattle.roster_form.proofs.PassLemmas.{some_is, finished_are, chosen_is_latest, back_cases, given_is_listed}
+use Rattle.roster_form.proofs.ContainsLemmas.{contains_same, contains_later, contains_cases, contains_none}
 
 -- whether two hosts are one
 host_cases : (b : Bool) (one other : Host) → same one other ≡ b → (one ≡ other) ⊎ (one ≡ other → ⊥)
@@ -15,34 +17,34 @@ host_cases true one other e = inl ((bytes_decides one other).0 e)
 host_cases false one other e = inr (λ is. let t : same one other ≡ true = (bytes_decides one other).1 is in absurd cc)
 
 -- whether it is one of these
-member_cases : (hosts : List Host) (host : Host) → IsIn host hosts ⊎ (IsIn host hosts → ⊥)
-member_cases [] host = inr (λ none. none)
+member_cases : (hosts : List Host) (host : Host) → Contains hosts host ⊎ (Contains hosts host → ⊥)
+member_cases [] host = inr (contains_none host)
 member_cases (first ∷ others) host = ⊎_elim
-    (λ here. inl (inl here))
-    (λ not. ⊎_elim (λ there. inl (inr there)) (λ nor. inr (⊎_elim not nor)) (member_cases others host))
+    (λ here. inl (contains_same first others host here))
+    (λ not. ⊎_elim (λ there. inl (contains_later first others host there)) (λ nor. inr (λ is. ⊎_elim not nor (contains_cases first others host is))) (member_cases others host))
     (host_cases (same host first) host first refl)
 
-pub front_in : (finished : List Roster) (past : Roster) → first_listed finished ≡ Some past → IsIn past finished
+pub front_in : (finished : List Roster) (past : Roster) → first_listed finished ≡ Some past → Contains finished past
 front_in [] past e = absurd cc
-front_in (first ∷ others) past e = inl (sym (some_is first past e))
+front_in (first ∷ others) past e = contains_same first others past (sym (some_is first past e))
 
 -- epochs fall along a succession
-pub falls : (new : Roster) (older : List Roster) (past : Roster) → AreSuccessive (new ∷ older) → IsIn past older → past.epoch < new.epoch
-falls new [] past are none = absurd none
+pub falls : (new : Roster) (older : List Roster) (past : Roster) → AreSuccessive (new ∷ older) → Contains older past → past.epoch < new.epoch
+falls new [] past are none = absurd (contains_none past none)
 falls new (old ∷ older) past are is = ⊎_elim
     (λ here. subst (λ (r : Roster). r.epoch < new.epoch) (sym here) (let e = are.0.next in omega (arith, e)))
     (λ there. let less = falls old older past are.2 there in let e = are.0.next in omega (arith, less, e))
-    is
+    (contains_cases old older past is)
 
 -- the one being written is later than each finished one
-pub written_is_later : (writing : Option Roster) (finished : List Roster) (new past : Roster) → AreSuccessive (listed_with writing finished) → writing ≡ Some new → IsIn past finished → past.epoch < new.epoch
+pub written_is_later : (writing : Option Roster) (finished : List Roster) (new past : Roster) → AreSuccessive (listed_with writing finished) → writing ≡ Some new → Contains finished past → past.epoch < new.epoch
 written_is_later None finished new past are e is = absurd cc
 written_is_later (Some first) finished new past are e is = subst (λ (r : Roster). past.epoch < r.epoch) (some_is first new e) (falls first finished past are is)
 
 -- the one being written is given to its hosts and to those of the one that it follows
-given_writing : (writing : Option Roster) (finished : List Roster) (new : Roster) (host : Host) → writing ≡ Some new → (IsIn host new.hosts ⊎ IsInFirst host finished) → IsGivenTo (listed_with writing finished) new host
+given_writing : (writing : Option Roster) (finished : List Roster) (new : Roster) (host : Host) → writing ≡ Some new → (Contains new.hosts host ⊎ IsInFirst host finished) → IsGivenTo (listed_with writing finished) new host
 given_writing None finished new host e to = absurd cc
-given_writing (Some first) finished new host e to = inl (sym is, subst (λ (r : Roster). IsIn host r.hosts ⊎ IsInFirst host finished) (sym is) to)
+given_writing (Some first) finished new host e to = inl (sym is, subst (λ (r : Roster). Contains r.hosts host ⊎ IsInFirst host finished) (sym is) to)
   where
     is : first ≡ new
     is = some_is first new e
@@ -80,10 +82,10 @@ write_keeps rosters new host old now keeps writing next more = record {
   shows = λ last h is of may. ⊎_elim (λ before. keeps.shows last h is of before) (λ now_shown. absurd (let e : None ≡ Some new = now_shown.1 in cc)) (more h None may);
   in_order = λ last following h other shown is writes not may of also.
       let same : Some new ≡ Some following = sym writing ∙ writes in
-      let others : (o : Host) (s : Option Roster) → IsIn o last.hosts → MayShow old o s → s ≡ Some following = ⊎_elim
+      let others : (o : Host) (s : Option Roster) → Contains last.hosts o → MayShow old o s → s ≡ Some following = ⊎_elim
       (λ before. λ o s. keeps.in_order last following h o s is writes not before)
       (λ now_shown. ⊎_elim
-      (λ member. absurd (not (subst (λ (k : Host). IsIn k last.hosts) (sym now_shown.0) member)))
+      (λ member. absurd (not (subst (λ (k : Host). Contains last.hosts k) (sym now_shown.0) member)))
       (λ all. λ o s in_last seen. all o s in_last seen ∙ same)
       (next.turn last is))
       (more h (Some following) may) in
@@ -112,13 +114,13 @@ finish_keeps finished new sights keeps all = record {
   known = keeps.known;
   onward = λ past roster host is of may. ⊎_elim
       (λ here.
-      let same : roster ≡ new = some_is roster new (all host (Some roster) (subst (λ (r : Roster). IsIn host r.hosts) here of) may) in
+      let same : roster ≡ new = some_is roster new (all host (Some roster) (subst (λ (r : Roster). Contains r.hosts host) here of) may) in
       let e : past.epoch ≡ new.epoch = ap (λ (r : Roster). r.epoch) here in
       let f : roster.epoch ≡ new.epoch = ap (λ (r : Roster). r.epoch) same in
       omega (arith, e, f))
       (λ there. keeps.onward past roster host there of may)
-      is;
-  shows = λ last host is of may. absurd (let e : None ≡ Some new = all host None (subst (λ (r : Roster). IsIn host r.hosts) (sym (some_is new last is)) of) may in cc);
+      (contains_cases new finished past is);
+  shows = λ last host is of may. absurd (let e : None ≡ Some new = all host None (subst (λ (r : Roster). Contains r.hosts host) (sym (some_is new last is)) of) may in cc);
   in_order = λ last following host other shown is writes not may of also. absurd (let e : None ≡ Some following = writes in cc);
 }
 
@@ -136,7 +138,7 @@ abandon_keeps rosters new sights keeps writing none = record {
 }
 
 -- a host that isn't recorded loses what it showed
-pub erase_keeps : (rosters : Rosters) (host : Host) (old new : Sights) → KeepsRosters rosters old → ((last : Roster) → last_finished rosters ≡ Some last → ¬ IsIn host last.hosts) → ShowsAlso host None old new → KeepsRosters rosters new
+pub erase_keeps : (rosters : Rosters) (host : Host) (old new : Sights) → KeepsRosters rosters old → ((last : Roster) → last_finished rosters ≡ Some last → ¬ Contains last.hosts host) → ShowsAlso host None old new → KeepsRosters rosters new
 erase_keeps rosters host old new keeps left more =
     let still : (h : Host) (roster : Roster) → MayShow new h (Some roster) → MayShow old h (Some roster) =
     λ h roster may. ⊎_elim (λ before. before) (λ gone. absurd (let e : Some roster ≡ None = gone.1 in cc)) (more h (Some roster) may) in
@@ -144,12 +146,12 @@ erase_keeps rosters host old new keeps left more =
       successive = keeps.successive;
       known = λ h roster may. keeps.known h roster (still h roster may);
       onward = λ past roster h is of may. keeps.onward past roster h is of (still h roster may);
-      shows = λ last h is of may. ⊎_elim (λ before. keeps.shows last h is of before) (λ gone. left last is (subst (λ (k : Host). IsIn k last.hosts) gone.0 of)) (more h None may);
+      shows = λ last h is of may. ⊎_elim (λ before. keeps.shows last h is of before) (λ gone. left last is (subst (λ (k : Host). Contains last.hosts k) gone.0 of)) (more h None may);
       in_order = λ last following h other shown is writes not may of also.
           let all = λ (o : Host) (s : Option Roster). keeps.in_order last following h o s is writes not (still h following may) in
           ⊎_elim
           (λ before. all other shown of before)
-          (λ gone. absurd (left last is (subst (λ (k : Host). IsIn k last.hosts) gone.0 of)))
+          (λ gone. absurd (left last is (subst (λ (k : Host). Contains last.hosts k) gone.0 of)))
           (more other shown also);
     }
 
@@ -159,7 +161,7 @@ pub first_keeps : (first : Roster) (sights : Sights) → first.epoch ≡ 1 → I
 first_keeps first sights one member none = record {
   successive = (one, member);
   known = λ host roster may. absurd (none host roster may);
-  onward = λ past roster host is of may. absurd is;
+  onward = λ past roster host is of may. absurd (contains_none past is);
   shows = λ last host is of may. absurd (let e : None ≡ Some last = is in cc);
   in_order = λ last following host other shown is writes not may of also. absurd (let e : None ≡ Some last = is in cc);
 }
@@ -173,13 +175,13 @@ last_member (first ∷ second ∷ older) last are e = subst HasMember (some_is f
 -- Where the hosts that are present may open the cluster by the last finished roster, no host at all shows a later one:
 -- a change that was begun was shown by none, once each host shows one thing.
 pub unseen : (rosters : Rosters) (sights : Sights) (found : List Sighting) (last new : Roster) → KeepsRosters rosters sights → last_finished rosters ≡ Some last → rosters.writing ≡ Some new
-    → ((each : Sighting) → IsIn each found → MayShow sights each.host each.shown) → ((each : Sighting) (shown : Option Roster) → IsIn each found → MayShow sights each.host shown → shown ≡ each.shown)
+    → ((each : Sighting) → Contains found each → MayShow sights each.host each.shown) → ((each : Sighting) (shown : Option Roster) → Contains found each → MayShow sights each.host shown → shown ≡ each.shown)
     → MayOpenBy found last → (host : Host) → MayShow sights host (Some new) → ⊥
 unseen rosters sights found last new keeps is writes seen single passes host may =
     let member = last_member rosters.finished last (finished_are rosters.writing rosters.finished keeps.successive) is in
     let less = written_is_later rosters.writing rosters.finished new last keeps.successive writes (front_in rosters.finished last is) in
     -- a host of the last roster shows no later one
-    let of_member : (h : Host) → IsIn h last.hosts → MayShow sights h (Some new) → ⊥ = λ h of shown.
+    let of_member : (h : Host) → Contains last.hosts h → MayShow sights h (Some new) → ⊥ = λ h of shown.
     let back = back_cases last found h (passes.back h of) in
     let here = single back.0 (Some new) back.1 (subst (λ (k : Host). MayShow sights k (Some new)) (sym back.2) shown) in
     let most = chosen_is_latest found last back.0 new passes.chosen back.1 (sym here) in
@@ -194,5 +196,5 @@ unseen rosters sights found last new keeps is writes seen single passes host may
     (member_cases last.hosts host)
 
 -- each host that has the roster alone shows nothing else
-pub alone_is_shown : (new : Roster) (sights : Sights) → ((host : Host) → IsIn host new.hosts → sights host ≡ Some new ∷ []) → IsShownByAll sights new
-alone_is_shown new sights alone host shown is may = ⊎_elim (λ e. e) (λ none. absurd none) (subst (λ (l : List (Option Roster)). IsIn shown l) (alone host is) may)
+pub alone_is_shown : (new : Roster) (sights : Sights) → ((host : Host) → Contains new.hosts host → sights host ≡ Some new ∷ []) → IsShownByAll sights new
+alone_is_shown new sights alone host shown is may = ⊎_elim (λ e. e) (λ none. absurd (contains_none shown none)) (contains_cases (Some new) [] shown (subst (λ (l : List (Option Roster)). Contains l shown) (alone host is) may))

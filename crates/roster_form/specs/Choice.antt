@@ -1,7 +1,7 @@
 -- Which roster is chosen of those that the present hosts show, and whether its hosts are back.
-use Rattle.std.specs.Prelude.{◌≡◌, nat_lt, List, [], ◌∷◌, Option, Some, None, is_some, Bool, false, ◌&&◌, ◌||◌, IsTrue, if◌then◌else◌}
+use Rattle.std.specs.Prelude.{◌≡◌, nat_lt, List, [], ◌∷◌, Option, Some, None, is_some, Bool, false, ◌&&◌, ◌||◌, IsTrue, if◌then◌else◌, Contains}
 use Rattle.cache_model.specs.Caches.{same}
-use Rattle.roster_form.specs.Membership.{Host, IsIn, joining_host}
+use Rattle.roster_form.specs.Membership.{Host, joining_host}
 use Rattle.roster_form.specs.declared.roster.Roster.{Roster}
 
 -- a host that is present, and the roster that it shows, if any
@@ -38,4 +38,4 @@ missing_hosts roster sightings (host ∷ hosts) = if is_back roster sightings ho
 -- the present hosts may open the cluster by this roster: it is the chosen one, and each of its hosts is back
 pub record MayOpenBy (sightings : List Sighting) (roster : Roster) : Type 0 where
   pub chosen : chosen_roster sightings ≡ Some roster
-  pub back : (host : Host) → IsIn host roster.hosts → IsTrue (is_back roster sightings host)
+  pub back : (host : Host) → Contains roster.hosts host → IsTrue (is_back roster sightings host)

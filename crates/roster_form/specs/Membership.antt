@@ -1,5 +1,5 @@
 -- Who belongs to a cluster. Names are their bytes.
-use Rattle.std.specs.Prelude.{⊤, ◌≡◌, ◌⊎◌, ℕ, ◌+◌, ◌<◌, ◌≤◌, ◌^◌, List, [], ◌∷◌, length, slice_get, Option, Some, None, All}
+use Rattle.std.specs.Prelude.{⊤, ℕ, ◌+◌, ◌<◌, ◌≤◌, ◌^◌, List, length, slice_get, Option, Some, None, All}
 use Rattle.cache_key.specs.Names.{IsName}
 use Rattle.cache_model.specs.Contents.{IsRising}
 use Rattle.roster_form.specs.declared.roster.Roster.{Roster}
@@ -7,11 +7,6 @@ use Rattle.roster_form.specs.declared.roster.Roster.{Roster}
 -- a host, by its name
 abbrev pub Host : Type 0
 Host = List ℕ
-
--- it is one of these
-abbrev pub IsIn : {T : Type 0} → T → List T → Type 0
-IsIn item [] = ⊥
-IsIn item (first ∷ others) = (item ≡ first) ⊎ IsIn item others
 
 -- the most hosts of a roster
 abbrev pub most_hosts : ℕ

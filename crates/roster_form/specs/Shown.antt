@@ -1,11 +1,10 @@
 -- What a host shows: the newer of the two rosters on its service disk.
-use Rattle.std.specs.Prelude.{⊤, ◌≡◌, ◌≢◌, ◌⊎◌, ℕ, ◌<◌, ◌≤◌, List, Option, Some, None}
+use Rattle.std.specs.Prelude.{⊤, ◌≢◌, ◌⊎◌, ℕ, ◌<◌, ◌≤◌, List, Option, Some, None, Contains}
 use Rattle.disk_trait.specs.View.{Image, View}
 use Rattle.disk_trait.specs.Moments.{Now}
-use Rattle.seal_gate.specs.Seal.{IsSealed}
 use Rattle.store_journal.specs.Created.{IsUnsealed}
 use Rattle.newest_store.specs.Newest.{IsNewest}
-use Rattle.roster_form.specs.Membership.{Host, IsIn}
+use Rattle.roster_form.specs.Membership.{Host}
 use Rattle.roster_form.specs.RosterText.{IsRosterText}
 use Rattle.roster_form.specs.declared.roster.Roster.{Roster}
 
@@ -20,11 +19,11 @@ abbrev pub Sights : Type 0
 Sights = Host → List (Option Roster)
 
 abbrev pub MayShow : Sights → Host → Option Roster → Type 0
-MayShow sights host shown = IsIn shown (sights host)
+MayShow sights host shown = Contains (sights host) shown
 
 -- an image of a host's service disk shows one of these
 abbrev pub ShowsOneOf : List (Option Roster) → Image → Type 0
-ShowsOneOf sights m = (shown : Option Roster) × Shows m shown × IsIn shown sights
+ShowsOneOf sights m = (shown : Option Roster) × Shows m shown × Contains sights shown
 
 -- each image of a host's service disk shows one of these
 abbrev pub IsSeenAs : View → List (Option Roster) → Type 0
@@ -51,7 +50,7 @@ FileShows bytes (Some shown) = IsRosterText shown bytes
 pub record IsWritingOver (roster : Roster) (file other : ℕ) (sights : List (Option Roster)) (m : Image) : Type 0 where
   pub two : IsOther file other
   pub shown : Option Roster
-  pub listed : IsIn shown sights
+  pub listed : Contains sights shown
   pub earlier : IsEarlier shown roster
   pub there : FileShows (m other) shown
   pub here : IsUnsealed (m file) ⊎ IsNewest m other ⊎ IsRosterText roster (m file)

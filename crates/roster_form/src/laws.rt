@@ -1,9 +1,9 @@
 //! What holds of the definitions: each law is the contract of a function that does nothing.
-ghost use Rattle.std.specs.Prelude.{◌≡◌, ◌⊎◌, ℕ, List, ◌∷◌, [], Option, Some, None};
+ghost use Rattle.std.specs.Prelude.{◌≡◌, ◌⊎◌, ℕ, List, ◌∷◌, [], Option, Some, None, Contains};
 ghost use Rattle.disk_trait.specs.View.{Image};
 ghost use Rattle.seal_gate.specs.Seal.{IsSealed};
 ghost use Rattle.newest_store.specs.Newest.{IsNewest};
-ghost use Rattle.roster_form.specs.Membership.{Host, IsIn};
+ghost use Rattle.roster_form.specs.Membership.{Host};
 ghost use Rattle.roster_form.specs.RosterText.{IsRosterText};
 ghost use Rattle.roster_form.specs.RosterFault.{roster_fault};
 ghost use Rattle.roster_form.specs.Shown.{Sights, MayShow, Shows, ShowsOneOf, IsOther, IsEarlier, IsWritingOver};
@@ -22,7 +22,7 @@ pub fn an_image_shows_one_thing()
 pub fn a_write_shows_old_or_new()
     // It begins where the other file is the newest, or this one isn't sealed, and only earlier rosters are shown.
     ensures begun { (roster : Roster) (file other : ℕ) (sights : List (Option Roster)) (m : Image) → IsOther file other → (IsSealed (m file) → IsNewest m other)
-        → ((shown : Option Roster) → IsIn shown sights → IsEarlier shown roster) → ShowsOneOf sights m → IsWritingOver roster file other sights m }
+        → ((shown : Option Roster) → Contains sights shown → IsEarlier shown roster) → ShowsOneOf sights m → IsWritingOver roster file other sights m }
     ensures shows { (roster : Roster) (file other : ℕ) (sights : List (Option Roster)) (m : Image) → IsWritingOver roster file other sights m → ShowsOneOf (Some roster ∷ sights) m }
     ensures written { (roster : Roster) (file other : ℕ) (sights : List (Option Roster)) (m : Image) → IsWritingOver roster file other sights m → IsRosterText roster (m file) → Shows m (Some roster) }
 {}
@@ -31,7 +31,7 @@ pub fn a_write_shows_old_or_new()
 /// last finished roster or by the one being written. Does nothing.
 pub fn only_two_may_pass()
     ensures { (rosters : Rosters) (sights : Sights) (sightings : List Sighting) (roster : Roster) → KeepsRosters rosters sights
-        → ((each : Sighting) → IsIn each sightings → MayShow sights each.host each.shown) → MayOpenBy sightings roster → MayPass rosters roster }
+        → ((each : Sighting) → Contains sightings each → MayShow sights each.host each.shown) → MayOpenBy sightings roster → MayPass rosters roster }
 {}
 
 /// What happens to rosters keeps them. Does nothing.
@@ -48,14 +48,14 @@ pub fn each_step_keeps_rosters()
     // Each of the new roster's hosts shows it and nothing else, as after a write to each that succeeded.
     ensures finished { (finished : List Roster) (new : Roster) (sights : Sights) → KeepsRosters (record { finished = finished; writing = Some new }) sights
         → IsShownByAll sights new → KeepsRosters (record { finished = new ∷ finished; writing = None }) sights }
-    ensures shown { (new : Roster) (sights : Sights) → ((host : Host) → IsIn host new.hosts → sights host ≡ Some new ∷ []) → IsShownByAll sights new }
+    ensures shown { (new : Roster) (sights : Sights) → ((host : Host) → Contains new.hosts host → sights host ≡ Some new ∷ []) → IsShownByAll sights new }
     // A change that no host may show is given up.
     ensures given_up { (rosters : Rosters) (new : Roster) (sights : Sights) → KeepsRosters rosters sights → rosters.writing ≡ Some new
         → ((host : Host) → MayShow sights host (Some new) → ⊥) → KeepsRosters (without_writing rosters) sights }
     // A stop leaves fewer choices; a sync and a restart too.
     ensures stopped { (rosters : Rosters) (old new : Sights) → KeepsRosters rosters old → ShowsNoMore old new → KeepsRosters rosters new }
     // A host that isn't of the last finished roster loses its rosters: it may show none, or still what it showed.
-    ensures erased { (rosters : Rosters) (host : Host) (old new : Sights) → KeepsRosters rosters old → ((last : Roster) → last_finished rosters ≡ Some last → ¬ IsIn host last.hosts)
+    ensures erased { (rosters : Rosters) (host : Host) (old new : Sights) → KeepsRosters rosters old → ((last : Roster) → last_finished rosters ≡ Some last → ¬ Contains last.hosts host)
         → ShowsAlso host None old new → KeepsRosters rosters new }
 {}
 
@@ -63,6 +63,6 @@ pub fn each_step_keeps_rosters()
 /// one that was begun after it: a recovery may give that change up. Does nothing.
 pub fn a_change_that_lost_was_never_seen()
     ensures { (rosters : Rosters) (sights : Sights) (sightings : List Sighting) (last new : Roster) → KeepsRosters rosters sights → last_finished rosters ≡ Some last → rosters.writing ≡ Some new
-        → ((each : Sighting) → IsIn each sightings → MayShow sights each.host each.shown) → ((each : Sighting) (shown : Option Roster) → IsIn each sightings → MayShow sights each.host shown → shown ≡ each.shown)
+        → ((each : Sighting) → Contains sightings each → MayShow sights each.host each.shown) → ((each : Sighting) (shown : Option Roster) → Contains sightings each → MayShow sights each.host shown → shown ≡ each.shown)
         → MayOpenBy sightings last → (host : Host) → MayShow sights host (Some new) → ⊥ }
 {}

@@ -9,7 +9,7 @@
 //! can open a cluster (`KeepsRosters`, specs/Succession.antt, and `laws`).
 //! Hides: that all bytes are judged before memory is taken for the names.
 //! Not here: reading and writing a service disk (roster_book), and the verdict of a recovery (quorum).
-//! Laws: NamesLemmas, RosterTextLemmas, ShownLemmas, PassLemmas, SuccessionLemmas.
+//! Laws: ContainsLemmas, NamesLemmas, RosterTextLemmas, ShownLemmas, PassLemmas, SuccessionLemmas.
 #![tactic(auto)]
 
 mod decode;

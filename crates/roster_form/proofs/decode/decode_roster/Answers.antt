@@ -1,6 +1,5 @@
-use Rattle.std.proofs.Common.{◌≡◌, ◌∙◌, sym, ap, inl, inr, Ok, Err}
+use Rattle.std.proofs.Common.{◌∙◌, sym, ap, inl, inr, Ok, Err}
 use Rattle.std.proofs.lemmas.Result.{err_from_is_err_and}
-use Rattle.roster_form.specs.declared.roster.Roster.{Roster}
 use Rattle.roster_form.proofs.RosterTextLemmas.{fault_refutes, roster_once}
 use Rattle.roster_form.proofs.decode.decode_roster.Goals as goal
 

@@ -1,7 +1,7 @@
-use Rattle.std.proofs.Common.{arith, ◌-◌, ◌+◌, refl, sym, ap, subst, List, ℕ}
+use Rattle.std.proofs.Common.{arith, ◌-◌, ◌+◌, sym, subst, List}
 use Rattle.byte_fields.specs.Reading.{rest_of}
 use Rattle.roster_form.specs.Membership.{Host}
-use Rattle.roster_form.proofs.NamesLemmas.{AreRead, next_name_of, one_read, all_read}
+use Rattle.roster_form.proofs.NamesLemmas.{AreRead, next_name_of, one_read}
 use Rattle.roster_form.proofs.decode.read_names.Goals as goal
 
 pub next_name-requires : goal.next_name-requires

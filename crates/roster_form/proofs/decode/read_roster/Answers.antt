@@ -1,6 +1,5 @@
-use Rattle.std.proofs.Common.{◌≡◌, ◌∙◌, sym, ap, arith, ◌-◌, List, ℕ, drop, take, subst, length, length-drop}
+use Rattle.std.proofs.Common.{◌≡◌, ◌∙◌, sym, ap, arith, ◌-◌, drop, take, length, length-drop}
 use Rattle.std.proofs.lemmas.List.{take_all}
-use Rattle.byte_fields.specs.Numbers.{number_in}
 use Rattle.roster_form.specs.RosterFault.{joining_in}
 use Rattle.roster_form.proofs.RosterTextLemmas.{found, read_is_text}
 use Rattle.roster_form.proofs.decode.read_roster.Goals as goal

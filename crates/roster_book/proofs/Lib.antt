@@ -1,3 +1,4 @@
 pub mod ReadingLemmas
-pub mod WritingLemmas
 pub mod RostersLemmas
+pub mod StandingLemmas
+pub mod WritingLemmas

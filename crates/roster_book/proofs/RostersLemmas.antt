@@ -1,6 +1,5 @@
 -- What several hosts show, host by host.
-use Rattle.std.proofs.Common.{◌≡◌, ◌⊎◌, ℕ, suc, ◌+◌, ◌<◌, ◌≤◌, List, [], ◌∷◌, ◌++◌, map, take, drop, get_or, length, slice_get, slice_set, Option, None, Some, refl, sym, ◌∙◌, ap, subst, arith}
-use Rattle.std.specs.Prelude.{All}
+use Rattle.std.proofs.Common.{◌≡◌, ℕ, suc, ◌+◌, ◌<◌, ◌≤◌, List, [], ◌∷◌, ◌++◌, take, drop, get_or, length, slice_get, slice_set, Option, None, Some, refl, sym, ◌∙◌, ap, subst, arith}
 use Rattle.std.proofs.lemmas.List.Elements.{All-append, All-nil, All-cons}
 use Rattle.std.proofs.lemmas.List.{map-append, take_more, take_all}
 use Rattle.std.proofs.lemmas.Option.{slice_get_within}
@@ -9,17 +8,15 @@ use Rattle.disk_lane.specs.Lanes.{HasFailedOn}
 use Rattle.disk_lane.proofs.LaneLemmas.{written_same, some_same, disk_there}
 use Rattle.disk_trait.specs.View.{Image, View}
 use Rattle.disk_trait.proofs.Runs.{started, same_none, onward_none}
-use Rattle.seal_gate.specs.Seal.{IsSealed}
 use Rattle.store_journal.specs.Created.{IsUnsealed}
 use Rattle.store_journal.specs.Loading.{OnlyReads}
-use Rattle.store_journal.specs.Stands.{version_in}
 use Rattle.newest_store.specs.Choice.{OnlyReadsLane}
-use Rattle.newest_store.specs.Newest.{IsNewest}
 use Rattle.newest_store.proofs.ChoiceLemmas.{reads_joined, failed_since}
 use Rattle.roster_form.specs.RosterFault.{roster_fault}
 use Rattle.roster_form.specs.RosterText.{IsRosterText}
 use Rattle.roster_form.specs.Shown.{Shows}
 use Rattle.roster_form.specs.declared.roster.Roster.{Roster}
+use Rattle.roster_book.proofs.ReadingLemmas.{newest_alike}
 use Rattle.roster_book.specs.Rosters.{IsShownBy, IsFoundOn, AreFound, IsDamagedRoster, IsDamagedOn, IsReadRefusal, IsRefusedOn, IsHostRefusal}
 use Rattle.roster_book.specs.declared.found.Found.{Found}
 use Rattle.roster_book.specs.declared.rosters.BookRefusal.{BookRefusal}
@@ -27,19 +24,9 @@ use Rattle.roster_book.specs.declared.rosters.BookRefusal.TheVariants.{Fault, Da
 
 -- ---- the same files
 
-newest_alike : (m n : Image) (file : ℕ) → ((f : ℕ) → m f ≡ n f) → IsNewest m file → IsNewest n file
-newest_alike m n file alike newest = record {
-  one_of_two = newest.one_of_two;
-  sealed = subst IsSealed (alike file) newest.sealed;
-  greatest = λ f within ne sealed.
-      subst (λ (bytes : List ℕ). (version_in (n f) < version_in bytes) ⊎ ((version_in (n f) ≡ version_in bytes) × (file < f))) (alike file)
-      (subst (λ (bytes : List ℕ). (version_in bytes < version_in (m file)) ⊎ ((version_in bytes ≡ version_in (m file)) × (file < f))) (alike f)
-      (newest.greatest f within ne (subst IsSealed (sym (alike f)) sealed)));
-}
-
 shows_alike : (m n : Image) (shown : Option Roster) → ((f : ℕ) → m f ≡ n f) → Shows m shown → Shows n shown
 shows_alike m n None alike shows = λ file within. subst IsUnsealed (alike file) (shows file within)
-shows_alike m n (Some roster) alike shows = (shows.0, newest_alike m n shows.0 alike shows.1, subst (IsRosterText roster) (alike shows.0) shows.2)
+shows_alike m n (Some roster) alike shows = (shows.0, newest_alike m n shows.0 (λ f within. alike f) shows.1, subst (IsRosterText roster) (alike shows.0) shows.2)
 
 -- ---- one host's disk in the list
 
@@ -91,7 +78,7 @@ module _ {D : Type 0} (view : D → View) (old mid : List D) (reads : OnlyReadsL
   damaged_before partitions host file at is = λ service there tells.
       let now = after_reads host service there in
       let damaged = is now.0 now.1 (now.2.onward.tells tells) in (
-        newest_alike (view now.0).seen (view service).seen file now.2.same.seen damaged.0,
+        newest_alike (view now.0).seen (view service).seen file (λ f within. now.2.same.seen f) damaged.0,
         subst (λ (bytes : List ℕ). roster_fault partitions bytes ≡ Some at) (now.2.same.seen file) damaged.1,
       )
 

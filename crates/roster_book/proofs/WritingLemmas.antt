@@ -1,17 +1,18 @@
 -- What a service disk holds while a roster is written to it, call by call.
-use Rattle.std.proofs.Common.{◌≡◌, ◌≢◌, ◌⊎◌, inl, inr, ⊎_elim, ℕ, suc, ◌+◌, ◌-◌, ◌<◌, ◌≤◌, List, [], ◌∷◌, ◌++◌, length, take, drop, get_or, Option, Some, None, refl, sym, ◌∙◌, ap, subst, arith, length-drop, length-append}
+use Rattle.std.proofs.Common.{◌≡◌, ◌≢◌, ◌⊎◌, inl, inr, ⊎_elim, ℕ, suc, ◌+◌, ◌-◌, ◌<◌, ◌≤◌, List, [], ◌∷◌, ◌++◌, length, take, drop, get_or, Option, Some, refl, sym, ◌∙◌, ap, subst, arith, length-drop}
 use Rattle.std.proofs.lemmas.Bool.{cases_eq, cases_lt}
 use Rattle.std.proofs.lemmas.List.{append-nil, drop_all, drop-drop, take_all}
 use Rattle.disk_trait.specs.View.{Image, View, Tells}
-use Rattle.disk_trait.specs.Calls.{written, Torn, Shorn, Moved, Follows, TimePasses, Fewer, Same}
+use Rattle.disk_trait.specs.Calls.{written, Torn, Shorn, Moved, Follows, TimePasses}
 use Rattle.disk_trait.specs.Moments.{Now, After, Throughout, CallsSoFar}
-use Rattle.disk_trait.proofs.Runs.{begun, then, then_call, weakened, holds_now, reached, joined}
-use Rattle.seal_gate.specs.Seal.{IsSealed, ButFirst, IsSettled, Each}
+use Rattle.disk_trait.proofs.Runs.{begun, then, then_call, weakened, holds_now, joined}
+use Rattle.seal_gate.specs.Seal.{IsSealed, ButFirst, Each}
 use Rattle.store_journal.specs.Created.{IsUnsealed, IsBlank}
 use Rattle.store_journal.specs.Stands.{version_in}
 use Rattle.byte_fields.specs.Numbers as numbers
 use Rattle.newest_store.specs.Newest.{IsNewest}
-use Rattle.roster_form.specs.RosterText.{IsRosterText, roster_head, names_text}
+use Rattle.roster_form.proofs.ContainsLemmas.{contains_first}
+use Rattle.roster_form.specs.RosterText.{IsRosterText}
 use Rattle.roster_form.specs.Shown.{IsOther, IsWritingOver, FileShows, IsSeenAs}
 use Rattle.roster_form.specs.declared.roster.Roster.{Roster}
 use Rattle.roster_form.proofs.RosterTextLemmas.{numbers_of}
@@ -219,7 +220,7 @@ sealed_shows a b roster text file other sights is laid all sealed over m here =
     let size : length (m file) ≡ suc (length (drop 1 text)) = ap length bytes in
     let less = length-drop 1 text in
     let is_sealed : IsSealed (m file) = record { first = λ zero. let one : get_or (m file) 0 0 ≡ 1 = ap (λ (l : List ℕ). get_or l 0 0) bytes in omega (arith, zero, one); long = (let long = whole.long in omega (arith, long, size, less)) } in
-    (Some roster, written_shows roster file other sights m (over m here) (first_any roster text (m file) is (ap (drop 1) bytes) is_sealed), inl refl)
+    (Some roster, written_shows roster file other sights m (over m here) (first_any roster text (m file) is (ap (drop 1) bytes) is_sealed), contains_first (Some roster) [])
 
 pub other_apart : (file : ℕ) → file ≤ 1 → (1 - file) ≢ file
 other_apart file within e = (other_of file within).0 (sym e)

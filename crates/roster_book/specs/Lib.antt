@@ -1,3 +1,5 @@
+pub mod Places
 pub mod Reading
+pub mod Standing
 pub mod Writing
 pub mod Rosters

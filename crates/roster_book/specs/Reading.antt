@@ -1,5 +1,5 @@
 -- What is found on a service disk.
-use Rattle.std.specs.Prelude.{⊤, ◌≡◌, ◌≢◌, ◌⊎◌, ℕ, ◌-◌, ◌≤◌, List, Option, Some, None}
+use Rattle.std.specs.Prelude.{⊤, ◌≡◌, ◌⊎◌, ℕ, ◌-◌, ◌≤◌, List, Option, Some, None}
 use Rattle.disk_trait.specs.View.{Image, View, Tells}
 use Rattle.disk_trait.specs.Calls.{Rose}
 use Rattle.disk_trait.specs.declared.DiskRefusal.{DiskRefusal}

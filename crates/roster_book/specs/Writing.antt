@@ -1,17 +1,15 @@
 -- What a service disk holds while a roster is written to it.
-use Rattle.std.specs.Prelude.{◌≡◌, ◌⊎◌, ℕ, ◌<◌, ◌≤◌, List, ◌∷◌, drop, Option, Some, None}
+use Rattle.std.specs.Prelude.{◌≡◌, ◌⊎◌, ℕ, ◌<◌, List, drop, Option, Some, None}
 use Rattle.disk_trait.specs.View.{Image, View}
 use Rattle.disk_trait.specs.Calls.{Rose}
 use Rattle.disk_trait.specs.Moments.{Now}
 use Rattle.disk_trait.specs.declared.DiskRefusal.{DiskRefusal}
 use Rattle.disk_trait.specs.declared.DiskRefusal.TheVariants.{Failed, NoMemory}
 use Rattle.seal_gate.specs.Seal.{IsSealed, IsSettled, Each}
-use Rattle.store_journal.specs.Created.{IsUnsealed, IsBlank}
+use Rattle.store_journal.specs.Created.{IsBlank}
 use Rattle.store_journal.specs.Stands.{version_in}
 use Rattle.newest_store.specs.Newest.{IsNewest}
-use Rattle.roster_form.specs.Membership.{IsIn}
 use Rattle.roster_form.specs.RosterText.{IsRosterText}
-use Rattle.roster_form.specs.Shown.{IsOther}
 use Rattle.roster_form.specs.declared.roster.Roster.{Roster}
 use Rattle.roster_book.specs.declared.write.Doubt.{Doubt}
 use Rattle.roster_book.specs.declared.write.Doubt.TheVariants.{FirstByte, Rest}

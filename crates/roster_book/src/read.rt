@@ -3,12 +3,13 @@ ghost use Rattle.std.specs.Prelude.{◌≡◌, ◌≢◌, ◌⊎◌, ℕ, ◌-�
 ghost use Rattle.disk_trait.specs.View.{Image, View, Tells};
 ghost use Rattle.disk_trait.specs.Calls.{Same, Cause};
 ghost use Rattle.disk_trait.specs.Moments.{Throughout, Onward};
-ghost use Rattle.seal_gate.specs.Seal.{IsSealed};
+ghost use Rattle.seal_gate.specs.Seal.{IsSealed, IsSettled};
 ghost use Rattle.store_journal.specs.Loading.{OnlyReads};
 ghost use Rattle.newest_store.specs.Newest.{IsNewest};
 ghost use Rattle.roster_form.specs.Shown.{Shows};
 ghost use Rattle.roster_form.specs.RosterFault.{roster_fault};
 ghost use Rattle.roster_book.specs.Reading.{IsEpochOf, IsNewestOf, IsOneOfTwo, IsFreeFile, IsOfSite, IsUnread, IsUnshown};
+ghost use Rattle.roster_book.specs.Writing.{IsReadyToWrite};
 ghost use Rattle.roster_form.specs.RosterText.{IsRosterText};
 ghost use Rattle.disk_trait.specs.Calls.{Rose};
 ghost use Rattle.roster_book.specs.declared.fault.ShownFault.TheVariants.{Failed, Damaged};
@@ -32,6 +33,9 @@ const EPOCH_OFFSET: usize = 9;
 pub fn file_to_write<D: Disk>(disk: &mut D) -> Result<u8, DiskRefusal>
     ensures free { IfOk result (λ file. Tells (D.view disk.old) → IsFreeFile (D.view disk.old).seen file) }
     ensures one_of_two { IfOk result (λ file. file ≤ 1) }
+    // Where nothing is pending in files 0 and 1, the write may begin.
+    ensures ready { IfOk result (λ file. Tells (D.view disk.old) → ((f : ℕ) → f ≤ 1 → IsSettled (D.view disk.old) f)
+        → (text : List ℕ) → IsReadyToWrite text file (1 - file) None (D.view disk.new)) }
     ensures moments { Throughout (D.view disk.old) (D.view disk.new) (D.view disk.old).images }
     ensures cause { Cause (D.view disk.old) (D.view disk.new) result }
     ensures reads_only { Same (D.view disk.old) (D.view disk.new) }

@@ -1,4 +1,4 @@
-use Rattle.std.proofs.Common.{◌≡◌, List, ℕ, subst}
+use Rattle.std.proofs.Common.{List, ℕ, subst}
 use Rattle.roster_book.specs.Reading.{IsEpochOf}
 use Rattle.roster_book.proofs.read.newest_file.Goals as goal
 

@@ -1,10 +1,10 @@
 -- The loops of the judge, host by host.
-use Rattle.std.proofs.Common.{◌≡◌, inl, inr, ⊎_elim, ℕ, suc, ◌+◌, ◌<◌, ◌≤◌, Bool, true, false, cond, ◌&&◌, ◌||◌, nat_lt, List, [], ◌∷◌, ◌++◌, length, drop, get_or, Option, Some, None, is_some, refl, sym, ◌∙◌, ap, subst, arith, append_assoc}
+use Rattle.std.proofs.Common.{◌≡◌, ⊎_elim, ℕ, ◌+◌, ◌<◌, ◌≤◌, Bool, true, false, cond, ◌&&◌, ◌||◌, nat_lt, List, [], ◌∷◌, length, drop, get_or, Option, Some, None, is_some, refl, sym, ◌∙◌, ap, arith}
 use Rattle.std.proofs.lemmas.Bool.{cases_lt, lt-ltb, le-ltb}
-use Rattle.std.proofs.lemmas.List.{drop_more, drop_all, append-nil}
+use Rattle.std.proofs.lemmas.List.{drop_more, drop_all}
 use Rattle.cache_model.specs.Caches.{same}
 use Rattle.roster_form.specs.Membership.{Host, joining_host}
-use Rattle.roster_form.specs.Choice.{Sighting, later_of, chosen_roster, is_host, is_back, missing_hosts}
+use Rattle.roster_form.specs.Choice.{Sighting, later_of, chosen_roster, is_host, is_back}
 use Rattle.roster_form.specs.declared.roster.Roster.{Roster}
 use Rattle.roster_book.specs.declared.found.Found.{Found}
 use Rattle.quorum.specs.Judged.{sightings_of}

@@ -1,3 +1,4 @@
+pub mod BestLemmas
 pub mod JudgedLemmas
 pub mod CheckLemmas
 pub mod Rows

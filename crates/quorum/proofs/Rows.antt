@@ -4,7 +4,6 @@ use Rattle.roster_form.specs.Membership.{Host}
 use Rattle.roster_form.specs.Choice.{Sighting}
 use Rattle.roster_form.specs.declared.roster.Roster.{Roster}
 use Rattle.quorum.specs.Judged.{verdict_of}
-use Rattle.quorum.specs.declared.verdict.Verdict.{Verdict}
 use Rattle.quorum.specs.declared.verdict.Verdict.TheVariants.{Met, Short, NotCreated}
 
 abbrev a : Host

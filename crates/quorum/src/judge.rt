@@ -2,7 +2,6 @@
 ghost use Rattle.std.specs.Prelude.{◌≡◌, ◌&&◌, ◌||◌, List, length, is_some, IfOk};
 ghost use Rattle.std.specs.Option.{option_copied};
 ghost use Rattle.cache_model.specs.Caches.{same};
-ghost use Rattle.cache_model.specs.Contents.{IsRising};
 ghost use Rattle.roster_form.specs.Membership.{Host, joining_host};
 ghost use Rattle.roster_form.specs.Choice.{later_of, chosen_roster, is_host, is_back, missing_hosts};
 ghost use Rattle.quorum.specs.Judged.{sightings_of, verdict_of, verdict_with};
@@ -15,11 +14,11 @@ use std::alloc::{AllocError, Global};
 
 /// Judges whether the present hosts may open the cluster.
 ///
-/// `found` is what `read_rosters` found at the hosts of `present`, in their order, which is the byte order of their names: so
-/// of two rosters of one epoch that of the lower host counts. Takes memory for the names that are answered.
+/// `found` is what `read_rosters` found at the hosts of `present`, in their order: of two rosters of one epoch that of the host
+/// that stands first counts, which is the lowest where the hosts stand in byte order. Takes memory for the names that are
+/// answered.
 pub fn check(alloc: Global, found: &[Found], present: &[HostName]) -> Result<Verdict, AllocError>
-    requires one_each { length found.now ≡ length present.now }
-    requires in_order { IsRising present.now }
+    requires { length found.now ≡ length present.now }
     ensures verdict { IfOk result (λ verdict. verdict ≡ verdict_of (sightings_of found.now present.now)) }
 {
     match chosen(found) {

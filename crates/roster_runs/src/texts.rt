@@ -1,12 +1,9 @@
 //! The bytes of a roster.
 use crate::fixtures::{expect_same, hosts};
-use roster_form::{RosterFault, decode_roster};
+use crate::rosters::WORKED;
+use roster_form::{RosterFault, decode_roster, encode_roster};
 use std::alloc::Global;
 use std::process::Abort;
-
-// Epoch 3, hosts a and b, on a site of two partitions.
-pub(crate) const WORKED: &[u8] = b"\x01PRO1\x00\x01\x00\x02\x00\x00\x00\x00\x00\x00\x00\x03\xff\x02\
-\x00\x00\x00\x00\x00\x00\x00\x00\x00\x00\x00\x00\x00\x00\x00\x00\x00\x00\x00\x00\x00\x00\x01a\x01b";
 
 fn fault_of(alloc: Global, text: &[u8], partitions: u16) -> Option<RosterFault> {
     match decode_roster(alloc, text, partitions) {
@@ -22,6 +19,8 @@ fn a_roster_is_its_forty_five_bytes(rt: HostRuntime) {
     let roster = decode_roster(alloc, WORKED, 2).expect(&rt, "a roster");
     expect_same(&rt, "its epoch", roster.epoch, 3);
     expect_same(&rt, "its joining host", roster.joining, None);
+    let again = encode_roster(alloc, &roster).expect(&rt, "its bytes");
+    expect_same(&rt, "its bytes", again.as_slice(), WORKED);
     expect_same(
         &rt,
         "its hosts",

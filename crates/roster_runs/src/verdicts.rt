@@ -1,5 +1,5 @@
 //! The verdict on the hosts that are present.
-use crate::fixtures::{are_rising, expect_same, hosts};
+use crate::fixtures::{expect_same, hosts};
 use cache_key::{HostList, HostName};
 use quorum::{Verdict, check};
 use roster_book::Found;
@@ -115,6 +115,20 @@ const VERDICTS: &[(&str, &[Present], &str, u64, &[&str])] = &[
         1,
         &["a"],
     ),
+    (
+        "the same, the other host first",
+        &[("b", B_ALONE), ("a", A_ALONE)],
+        "met",
+        1,
+        &["b"],
+    ),
+    (
+        "three epochs, the latest between",
+        &[("c", A_ALONE), ("b", BOTH), ("a", B_JOINS)],
+        "met",
+        3,
+        &["a", "b"],
+    ),
 ];
 
 fn found_on(rt: &impl Abort, alloc: Global, host: u16, shown: &Option<Written>) -> Found {
@@ -146,7 +160,6 @@ fn verdict_on(rt: &impl Abort, alloc: Global, hosts: &[Present]) -> Verdict {
 
 fn judged(rt: &impl Abort, alloc: Global, found: &[Found], present: &[HostName]) -> Verdict {
     assert!(rt; found.len() == present.len(), "one is found for each host");
-    assert!(rt; are_rising(present), "the hosts are in byte order");
     check(alloc, found, present).expect(rt, "a verdict")
 }
 

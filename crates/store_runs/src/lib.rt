@@ -21,3 +21,5 @@ mod identifiers;
 mod newest_of_two;
 #[cfg(test)]
 mod one_store;
+#[cfg(test)]
+mod several_hosts;

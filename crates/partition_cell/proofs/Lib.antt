@@ -1,0 +1,9 @@
+pub mod ListLemmas
+pub mod EventLemmas
+pub mod BoardLemmas
+pub mod CommitLemmas
+pub mod StepLemmas
+pub mod SealLemmas
+pub mod MakeLemmas
+pub mod ReadyLemmas
+pub mod RefusalLemmas

@@ -1,0 +1,13 @@
+use Rattle.std.proofs.Common.{◌≡◌, ◌⊎◌, Some, sym, subst, ◌∙◌}
+use Rattle.cache_key.specs.declared.request.Mutation.{Mutation}
+use Rattle.cache_model.specs.Change.{change_of}
+use Rattle.disk_lane.specs.Lanes.{LaneImage, LaneEvent}
+use Rattle.partition_cell.specs.Cells.{Surviving, SurvivingBefore}
+use Rattle.kept_cell.proofs.kept.Kept.call.Goals as goal
+
+pub returns-clause-event : goal.returns-clause-event
+returns-clause-event g c mutation is =
+    let a = c.args.self.now.cell in
+    let both : Some c.in-Some.mutation ≡ Some mutation = sym c.in-Some.is ∙ c.as_mutation.ensures ∙ is in
+    let same : c.in-Some.mutation ≡ mutation = cc both in
+    subst (λ (m : Mutation). LaneEvent g.D.Disk.view a.owner a.disks c.change.new.self.cell.disks (λ (ms : LaneImage). Surviving a ms ⊎ SurvivingBefore a (change_of m) ms)) same c.change.ensures.event

@@ -25,7 +25,7 @@ use Rattle.cache_model.proofs.SizeLemmas.{size_after-contents}
 use Rattle.cache_model.specs.Size.{size_after}
 use Rattle.partition_map.specs.declared.extent.Extent.{Extent}
 use Rattle.partition_map.specs.After.{AgreesWith}
-use Rattle.partition_map.specs.Extents.{Extents, Maps, extent_shown, caches_in, IsWhole, AreKept, IsExtentAfter, IsShownSame}
+use Rattle.partition_map.specs.Extents.{Extents, Maps, presence_held, extent_shown, caches_in, IsWhole, AreKept, IsExtentAfter, IsShownSame}
 use Rattle.partition_map.specs.Order.{cache_changed, brings, with_name, with_names, names_brought, order_after, order_looking_back}
 use Rattle.partition_map.specs.Place.{value_at, value_count, pairs_shown}
 use Rattle.partition_map.specs.Written.{ShowsAgain}
@@ -64,9 +64,6 @@ cond-there false x = refl
 
 abbrev pub value_held : Option Extent → List ℕ → Option (List ℕ)
 value_held found key = option_and_then (λ (e : Extent). value_at e.places key) found
-
-abbrev pub presence_held : Option Extent → Bool
-presence_held found = option_map_or (λ (e : Extent). e.present) found false
 
 pub presence-caches_in : (es : Extents) (cache : List ℕ) → IsRising (keys_of es) → is_some (lookup (same cache) (caches_in es)) ≡ presence_held (lookup (same cache) es)
 presence-caches_in es cache rise = ap is_some (lookup-shown_by extent_shown es cache rise) ∙ by (lookup (same cache) es)
@@ -358,9 +355,8 @@ pub only_contents : (changes : List Change) (caches others : Caches) → AreCont
 only_contents changes caches others one other = same_contents changes changes caches others (record { values = λ cache key. refl; presence = λ cache. refl }) one other
 
 -- whether a cache is there after the changes that a map agrees with
-pub presence-agreed : (changes : List Change) (maps : Maps) (cache : List ℕ) → IsRising (keys_of maps.extents) → AgreesWith changes maps → presence_held (lookup (is_at (slice_cmp nat_cmp cache)) maps.extents) ≡ is_present_after changes cache
-presence-agreed changes maps cache rise agrees =
-    ap (λ test. presence_held (lookup test maps.extents)) (sym (same-is_at cache)) ∙ sym (presence-caches_in maps.extents cache rise) ∙ agrees.contents.presence cache
+pub presence-agreed : (changes : List Change) (maps : Maps) (cache : List ℕ) → IsRising (keys_of maps.extents) → AgreesWith changes maps → presence_held (lookup (same cache) maps.extents) ≡ is_present_after changes cache
+presence-agreed changes maps cache rise agrees = sym (presence-caches_in maps.extents cache rise) ∙ agrees.contents.presence cache
 
 pub value-agreed : (changes : List Change) (maps : Maps) (cache key : List ℕ) → IsRising (keys_of maps.extents) → AreWhole maps.extents → AgreesWith changes maps → value_held (lookup (is_at (slice_cmp nat_cmp cache)) maps.extents) key ≡ value_after changes cache key
 value-agreed changes maps cache key rise whole agrees =

@@ -12,11 +12,11 @@ use Rattle.cache_model.proofs.ContentsLemmas.{same-itself}
 use Rattle.cache_model.proofs.ShownLemmas.{same-is_at}
 use Rattle.partition_map.specs.declared.extent.Extent.{Extent}
 use Rattle.partition_map.specs.declared.readied.Readied.{Readied}
-use Rattle.partition_map.specs.Extents.{Extents, extent_shown, caches_in}
+use Rattle.partition_map.specs.Extents.{Extents, presence_held, extent_shown, caches_in}
 use Rattle.partition_map.specs.Hidden.{HidesHere, HideNothing, HideOnlyOf, AreHiddenBy, if_there, IsLeftThere}
 use Rattle.partition_map.specs.Place.{PlaceList, is_hidden, hides, HidesOnly, HidesNoMore, SameValues, place_count, place_bytes, value_count, value_bytes}
 use Rattle.partition_map.specs.Written.{ShowsAgain}
-use Rattle.partition_map.proofs.ChangedLemmas.{AreWhole, IsWritten, presence_held, hidden_first}
+use Rattle.partition_map.proofs.ChangedLemmas.{AreWhole, IsWritten, hidden_first}
 use Rattle.partition_map.proofs.SumLemmas.{weight, total-remove}
 use Rattle.partition_map.proofs.ValueLemmas.{PlaceChanges}
 

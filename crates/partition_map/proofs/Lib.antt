@@ -5,5 +5,6 @@ mod ValueLemmas
 mod ChangedLemmas
 mod HiddenLemmas
 mod KeptLemmas
+mod MarkLemmas
 mod ShownLemmas
 mod CountLemmas

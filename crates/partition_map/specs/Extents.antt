@@ -1,5 +1,5 @@
 -- The extents of a partition: each is a cache that is there, or one for which places were made ready.
-use Rattle.std.specs.Prelude.{◌≡◌, ℕ, ◌<◌, ◌+◌, ◌^◌, List, [], ◌∷◌, length, sum_by, false, Option, Some, None, if◌then◌else◌}
+use Rattle.std.specs.Prelude.{◌≡◌, ℕ, ◌<◌, ◌+◌, ◌^◌, List, [], ◌∷◌, length, sum_by, Bool, false, Option, Some, None, if◌then◌else◌}
 use Rattle.std.specs.Option.{option_map_or}
 use Rattle.std.specs.List.{AllByRecursion}
 use Rattle.std.specs.Map.{keys_of}
@@ -22,6 +22,10 @@ pub record Maps : Type 0 where
   pub extents : Extents
   pub names : List (List ℕ)
   pub room : ℕ
+
+-- whether an extent was found whose cache is there
+abbrev pub presence_held : Option Extent → Bool
+presence_held found = option_map_or (λ (e : Extent). e.present) found false
 
 -- the pairs of the cache, if it is there
 abbrev pub extent_shown : Extent → Option Pairs

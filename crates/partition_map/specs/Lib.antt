@@ -2,6 +2,7 @@ pub mod After
 pub mod Extents
 pub mod Hidden
 pub mod Items
+pub mod Marks
 pub mod Order
 pub mod Place
 pub mod Readiness

@@ -14,6 +14,8 @@ use Rattle.partition_map.specs.Order.{cache_changed}
 pub record IsShiftOf (change : Change) (before now : Extent) (shift : Shift) : Type 0 where
   pub cache : shift.cache ≡ cache_changed change
   pub after : IsExtentAfter change before now
+  pub was_present : shift.was_present ≡ before.present
+  pub is_present : shift.is_present ≡ now.present
   pub gone_items : shift.gone_items ≡ extent_items (cache_changed change) before
   pub come_items : shift.come_items ≡ extent_items (cache_changed change) now
   pub gone_bytes : extent_bytes (cache_changed change) before < 2 ^ 62 → shift.gone_bytes ≡ extent_bytes (cache_changed change) before

@@ -4,29 +4,29 @@ ghost use Rattle.std.specs.Map.{lookup};
 ghost use Rattle.cache_model.specs.Caches.{same};
 ghost use Rattle.cache_model.specs.Change.{Change, change_of};
 ghost use Rattle.cache_model.specs.PlainList.{growth_of};
-ghost use Rattle.indexmap.specs.IndexSet.{spare};
-ghost use Rattle.partition_map.specs.Extents.{Extents};
+ghost use Rattle.partition_map.specs.Extents.{Extents, presence_held};
 ghost use Rattle.partition_map.specs.Hidden.{keys_put, HideNothing, HideOnlyOf, AreHiddenBy, IsLeftThere};
-ghost use Rattle.partition_map.specs.Order.{cache_changed, brings, with_name};
+ghost use Rattle.partition_map.specs.Order.{cache_changed, brings};
 ghost use Rattle.partition_map.specs.Readiness.{IsAppliable, HasExtentFor, HasFewPairs, room_for};
 ghost use Rattle.partition_map.specs.Written.{IsShiftOf, IsShift, ShowsAgain};
 
 use crate::extent::Extent;
-use crate::read::is_there;
 use crate::readied::Readied;
 use cache_key::{CacheName, Mutation};
 use cache_model::growth;
-use indexmap::IndexSet;
 use std::alloc::{AllocError, Global};
 use std::collections::BTreeMap;
 
 /// The length of an ensure with its record, beside the name.
 const ENSURE_GROWTH: u64 = 8;
 
-/// What a cache had before a change and has after it, in items of the plain list and in their bytes.
+/// Whether a cache was there before a change and is after it, and what it had and has, in items of the plain list and in
+/// their bytes.
 #[derive(Drop)]
 pub(crate) struct Shift {
     pub(crate) cache: CacheName,
+    pub(crate) was_present: bool,
+    pub(crate) is_present: bool,
     pub(crate) gone_items: u64,
     pub(crate) come_items: u64,
     pub(crate) gone_bytes: u64,
@@ -56,11 +56,14 @@ fn shift_extent(extent: &mut Extent, name_length: u64, mutation: Mutation) -> Sh
     requires ready { brings (change_of mutation) ≡ true → IsAppliable (change_of mutation) extent.old.places }
     ensures { IsShiftOf (change_of mutation) extent.old extent.new result }
 {
+    let was_present = extent.is_present();
     let gone_items = extent.items();
     let gone_bytes = extent.bytes(name_length);
     let cache = extent.apply(mutation);
     Shift {
         cache,
+        was_present,
+        is_present: extent.is_present(),
         gone_items,
         come_items: extent.items(),
         gone_bytes,
@@ -107,42 +110,40 @@ pub(crate) fn forget(extents: &mut BTreeMap<CacheName, Extent>, readied: &Option
 {
     match readied {
         Some(readied) => {
-            forget_places(extents, readied);
-            remove_absent(extents, &readied.cache);
+            let is_present = forget_places(extents, readied);
+            remove_absent(extents, &readied.cache, is_present);
         }
         None => (),
     }
 }
 
-// Takes the places away that were made ready and have no value.
-fn forget_places(extents: &mut BTreeMap<CacheName, Extent>, readied: &Readied)
+// Takes the places away that were made ready and have no value. Answers whether their cache is there.
+fn forget_places(extents: &mut BTreeMap<CacheName, Extent>, readied: &Readied) -> bool
     ensures shown { ShowsAgain extents.old.entries extents.new.entries }
     ensures hidden { HideOnlyOf readied.now.cache readied.now.keys.items extents.old.entries → HideOnlyOf readied.now.cache [] extents.new.entries }
+    ensures presence { result ≡ presence_held (lookup (same readied.now.cache) extents.new.entries) }
 {
     match extents.get_mut(&readied.cache) {
-        Some(extent) => extent.forget(readied.keys.as_slice()),
-        None => (),
+        Some(extent) => {
+            extent.forget(readied.keys.as_slice());
+            extent.is_present()
+        }
+        None => false,
     }
 }
 
-/// Takes the extent of the cache away, where it isn't there.
-pub(crate) fn remove_absent(extents: &mut BTreeMap<CacheName, Extent>, cache: &CacheName)
+/// Takes the extent of the cache away, where it has one that is absent. The caller knows whether the cache is there.
+pub(crate) fn remove_absent(
+    extents: &mut BTreeMap<CacheName, Extent>,
+    cache: &CacheName,
+    is_present: bool,
+)
+    requires presence { is_present ≡ presence_held (lookup (same cache.now) extents.old.entries) }
     ensures shown { ShowsAgain extents.old.entries extents.new.entries }
     ensures left { IsLeftThere cache.now extents.old.entries extents.new.entries }
 {
-    if !is_there(extents.get(cache)) {
+    if !is_present {
         extents.remove(cache);
-    }
-}
-
-/// Gives the name a number, where it was made present and has none. Takes no memory.
-pub(crate) fn number_name(names: &mut IndexSet<CacheName>, name: CacheName, is_present: bool)
-    requires room { is_present ≡ true → 0 < spare names.old }
-    ensures { names.new.keys ≡ (if is_present then with_name names.old.keys name else names.old.keys) }
-{
-    if is_present {
-        let added: Result<_, _> = names.insert(name);
-        added.unwrap();
     }
 }
 

@@ -1,11 +1,10 @@
-//! Copies of maps and of names.
+//! Copies of maps.
 ghost use Rattle.std.specs.Prelude.{◌≡◌, IfOk};
 ghost use Rattle.std.specs.Map.{keys_of};
 ghost use Rattle.cache_model.specs.Contents.{IsRising};
 
 use crate::extent::Extent;
 use cache_key::{CacheName, Key, Value};
-use indexmap::IndexSet;
 use std::alloc::{AllocError, Global};
 use std::collections::BTreeMap;
 
@@ -47,18 +46,4 @@ fn copy_place(place: &Option<Value>) -> Result<Option<Value>, AllocError>
         Some(value) => Ok(Some(value.copy()?)),
         None => Ok(None),
     }
-}
-
-/// The same names in the same order. Takes memory.
-pub(crate) fn copy_names(
-    alloc: Global,
-    names: &IndexSet<CacheName>,
-) -> Result<IndexSet<CacheName>, AllocError>
-    ensures { IfOk result (λ copied. copied.keys ≡ names.now.keys) }
-{
-    let mut copied = IndexSet::with_capacity(alloc, names.len())?;
-    for name in names {
-        copied.insert(name.copy()?)?;
-    }
-    Ok(copied)
 }

@@ -12,10 +12,10 @@
 //! Hides: that a place is made ready by an entry without a value, and that sums are kept.
 //! Not here: what an answer or the contents are after a list (cache_model); the store file (store_journal).
 //! Laws: none.
-//! Cost: a get, a put, a remove and a size one look-up by name and one by key, O(log n); `live` O(1); `extent` O(log n) in
-//!   the caches that are there; `entries_from` O(log n) and its items; `contents` and `copy` all of them, and `count_from`
-//!   those after its item. `apply` takes no memory. Reads in order pass over at most 64 places and one extent that show
-//!   nothing: what was made ready and not used goes at the next `ready`.
+//! Cost: a get, a put, a remove and a size one look-up by name and one by key, O(log n); `live` O(1); `extent` one look-up
+//!   by hash; `entries_from` O(log n) and its items; `contents` and `copy` all of them, and `count_from` those after its
+//!   item. `apply` takes no memory. Reads in order pass over at most 64 places and one extent that show nothing: what was
+//!   made ready and not used goes at the next `ready`.
 #![tactic(auto)]
 
 mod change;
@@ -25,6 +25,7 @@ mod extent;
 mod item;
 mod list;
 mod map;
+mod names;
 mod places;
 mod read;
 mod readied;

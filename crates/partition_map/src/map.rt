@@ -11,19 +11,18 @@ ghost use Rattle.partition_map.specs.Extents.{caches_in, AreKept};
 ghost use Rattle.partition_map.specs.Items.{items_after};
 ghost use Rattle.partition_map.specs.Order.{brings, extent_number};
 
-use crate::change::{
-    change_extent, forget, makes_present, number_name, ready_extent, remove_absent, room_for,
-};
-use crate::copy::{copy_extents, copy_names};
+use crate::change::{change_extent, forget, makes_present, ready_extent, remove_absent, room_for};
+use crate::copy::copy_extents;
 use crate::count::count_after_item;
 use crate::extent::Extent;
 use crate::item::LastItem;
 use crate::list::{add_after, copy_caches};
-use crate::read::{count_of, is_there, value_of};
+use crate::names::{copy_names, mark_name};
+use crate::read::{count_of, value_of};
 use crate::readied::Readied;
 use cache_key::{CacheName, Key, Mutation, Reply, Request, Value};
 use cache_model::Contents;
-use indexmap::IndexSet;
+use indexmap::IndexMap;
 use std::alloc::{AllocError, Global};
 use std::collections::BTreeMap;
 use std::marker::Model;
@@ -47,7 +46,7 @@ const MUTATIONS_IN_A_RECORD: u64 = 64;
 #[derive(Drop)]
 pub struct PartitionMap {
     extents: BTreeMap<CacheName, Extent>,
-    names: IndexSet<CacheName>,
+    names: IndexMap<CacheName, bool>,
     items: u64,
     bytes: u64,
     readied: Option<Readied>,
@@ -56,15 +55,16 @@ pub struct PartitionMap {
 
 impl Model for PartitionMap {
     ghost use Rattle.std.specs.Prelude.{◌≤◌, ◌^◌, length};
-    ghost use Rattle.indexmap.specs.IndexSet.{spare};
+    ghost use Rattle.indexmap.specs.IndexMap.{keys, spare};
     ghost use Rattle.partition_map.specs.Extents.{Maps, AreKept};
     ghost use Rattle.partition_map.specs.Hidden.{AreHiddenBy};
+    ghost use Rattle.partition_map.specs.Marks.{AreMarked};
 
     ghost Value = { Maps };
 
-    ghost view = { λ m. record { extents = m.extents.entries; names = m.names.keys; room = spare m.names } };
+    ghost view = { λ m. record { extents = m.extents.entries; names = keys m.names; room = spare m.names } };
 
-    ghost invariant = { λ m. AreKept m.extents.entries m.items m.bytes × (length m.names.keys ≤ 2 ^ 32) × AreHiddenBy m.readied m.extents.entries };
+    ghost invariant = { λ m. AreKept m.extents.entries m.items m.bytes × (length (keys m.names) ≤ 2 ^ 32) × AreHiddenBy m.readied m.extents.entries × AreMarked m.names.entries m.extents.entries };
 }
 
 impl PartitionMap {
@@ -74,7 +74,7 @@ impl PartitionMap {
     {
         PartitionMap {
             extents: BTreeMap::new(alloc),
-            names: IndexSet::new(alloc),
+            names: IndexMap::new(alloc),
             items: 0,
             bytes: 0,
             readied: None,
@@ -163,12 +163,11 @@ impl PartitionMap {
     pub fn extent(&self, cache: &CacheName) -> Option<u32>
         ensures { (changes : List Change) → AgreesWith changes self.now → result ≡ extent_number changes cache.now }
     {
-        if !is_there(self.extents.get(cache)) {
-            return None;
-        }
-        match self.names.get_index_of(cache) {
-            Some(number) => Some(number as u32),
-            None => None,
+        let (number, _, is_present) = self.names.get_full(cache)?;
+        if *is_present {
+            Some(number as u32)
+        } else {
+            None
         }
     }
 
@@ -200,13 +199,17 @@ impl PartitionMap {
         requires ready { IsReadyFor (change_of mutation) self.old }
         ensures { (changes : List Change) → AgreesWith changes self.old → AgreesWith (changes ++ change_of mutation ∷ []) self.new }
     {
-        let is_present_then = makes_present(&mutation);
         match change_extent(&mut self.extents, mutation) {
             Some(shift) => {
                 self.items = self.items - shift.gone_items + shift.come_items;
                 self.bytes = self.bytes - shift.gone_bytes + shift.come_bytes;
-                remove_absent(&mut self.extents, &shift.cache);
-                number_name(&mut self.names, shift.cache, is_present_then);
+                remove_absent(&mut self.extents, &shift.cache, shift.is_present);
+                mark_name(
+                    &mut self.names,
+                    shift.cache,
+                    shift.was_present,
+                    shift.is_present,
+                );
             }
             None => (),
         }

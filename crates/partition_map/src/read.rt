@@ -1,5 +1,5 @@
 //! What an extent has, if there is one.
-ghost use Rattle.std.specs.Prelude.{◌≡◌, false, option_and_then};
+ghost use Rattle.std.specs.Prelude.{◌≡◌, option_and_then};
 ghost use Rattle.std.specs.Option.{option_copied, option_map_or};
 ghost use Rattle.partition_map.specs.declared.extent.Extent.{Extent};
 ghost use Rattle.partition_map.specs.Place.{value_at, value_count};
@@ -24,15 +24,5 @@ pub(crate) fn count_of(extent: Option<&Extent>) -> u64
     match extent {
         Some(extent) => extent.count(),
         None => 0,
-    }
-}
-
-// Whether the cache is there.
-pub(crate) fn is_there(extent: Option<&Extent>) -> bool
-    ensures { result ≡ option_map_or (λ (e : Extent). e.present) (option_copied extent.entry) false }
-{
-    match extent {
-        Some(extent) => extent.is_present(),
-        None => false,
     }
 }

@@ -1,17 +1,20 @@
-use Rattle.std.proofs.Common.{None, cond, position, ap, ◌∙◌, sym, subst}
+use Rattle.std.proofs.Common.{false, None, cond, position, unwrap_or, ap, ◌∙◌, sym, subst}
 use Rattle.cache_model.specs.Caches.{same}
 use Rattle.partition_map.specs.After.{AgreesWith}
 use Rattle.partition_map.specs.Order.{order_after}
-use Rattle.partition_map.proofs.ChangedLemmas.{presence-agreed, presence_held}
+use Rattle.partition_map.proofs.MarkLemmas.{marked-agreed}
 use Rattle.partition_map.proofs.map.PartitionMap.extent.Goals as goal
 
-pub returns-then-not-is_there : goal.returns-then-not-is_there
-returns-then-not-is_there c = λ changes agrees.
-    let here = sym (presence-agreed changes _ c.args.cache.now c.self.invariant.0.rises (subst (AgreesWith changes) (sym c.self.view_is) agrees)) ∙ sym (c.is_there.ensures ∙ ap presence_held c.get.ensures.value) ∙ c.if-not-is_there.true in
-    sym (ap (λ b. cond b (position (same c.args.cache.now) (order_after changes)) None) here)
-
-pub returns-in-Some : goal.returns-in-Some
-returns-in-Some c = λ changes agrees.
+pub returns-then-is_present : goal.returns-then-is_present
+returns-then-is_present c = λ changes agrees.
+    let cache = c.args.cache.now in
     let agreed = subst (AgreesWith changes) (sym c.self.view_is) agrees in
-    let here = sym (presence-agreed changes _ c.args.cache.now c.self.invariant.0.rises agreed) ∙ sym (c.is_there.ensures ∙ ap presence_held c.get.ensures.value) ∙ c.if-not-is_there.false in
-    c.in-Some.ensures.index ∙ ap (position (same c.args.cache.now)) agreed.order ∙ sym (ap (λ b. cond b (position (same c.args.cache.now) (order_after changes)) None) here)
+    let here = sym (marked-agreed changes _ c.self.inside.names.entries cache c.self.invariant.0.rises c.self.invariant.3 agreed) ∙ sym (ap (λ found. unwrap_or found false) c.in_ok-number.ensures.value) ∙ c.if-is_present.true in
+    c.in_ok-number.ensures.index ∙ ap (position (same cache)) agreed.order ∙ sym (ap (λ b. cond b (position (same cache) (order_after changes)) None) here)
+
+pub returns-else-is_present : goal.returns-else-is_present
+returns-else-is_present c = λ changes agrees.
+    let cache = c.args.cache.now in
+    let agreed = subst (AgreesWith changes) (sym c.self.view_is) agrees in
+    let here = sym (marked-agreed changes _ c.self.inside.names.entries cache c.self.invariant.0.rises c.self.invariant.3 agreed) ∙ sym (ap (λ found. unwrap_or found false) c.in_ok-number.ensures.value) ∙ c.if-is_present.false in
+    sym (ap (λ b. cond b (position (same cache) (order_after changes)) None) here)

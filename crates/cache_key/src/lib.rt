@@ -4,7 +4,8 @@
 //!   pairs of a key and a value, `HostList` a list of names.
 //! Keeps: a text keeps the limits of its kind as long as it lives, and `Pairs` has at most 64 pairs. Equality and order
 //!   of texts are those of the bytes.
-//! Hides: that a text is a `String`, and that each list is a `Vec`.
+//! Hides: that a text is a `String`, beside which its first bytes stand as numbers, so that most texts are compared without a
+//!   look at the strings (leading.rt); and that each list is a `Vec`.
 //! Not here: what a request does to a cache (cache_model), the bytes of a text in a file (record_form).
 //! The partition of a key: `hash_partition`, specs/Partition.antt.
 #![tactic(auto)]
@@ -13,6 +14,7 @@ mod check;
 mod fault;
 mod hosts;
 mod keys;
+mod leading;
 mod limits;
 mod names;
 mod pairs;

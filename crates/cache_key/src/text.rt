@@ -7,6 +7,7 @@ ghost use Rattle.std.specs.Cmp.Rules.{hashing};
 ghost use Rattle.std.specs.Hash as fed;
 ghost use Rattle.std.specs.Cmp.Lexicographic.{pointwise, slice_cmp, nat_list_eq_equiv, nat_list_cmp_total, texts_po, texts_ties};
 
+use crate::leading::Leading;
 use std::alloc::AllocError;
 use std::cmp::Ordering;
 use std::fmt;
@@ -24,18 +25,20 @@ pub trait Limits {
 #[derive(Drop)]
 pub struct Text<L: Limits> {
     text: String,
+    leading: Leading,
     kind: PhantomData<L>,
 }
 
 impl<L: Limits> Model for Text<L> {
     ghost use Rattle.std.specs.Prelude.{ℕ, List};
     ghost use Rattle.std.specs.String.{string_bytes};
+    ghost use Rattle.cache_key.specs.Leading.{IsLeadingOf};
 
     ghost Value = { List ℕ };
 
     ghost view = { λ made. string_bytes made.text };
 
-    ghost invariant = { λ made. L.keeps_limits (string_bytes made.text) };
+    ghost invariant = { λ made. L.keeps_limits (string_bytes made.text) × IsLeadingOf made.leading (string_bytes made.text) };
 }
 
 impl<L: Limits> Text<L> {
@@ -46,8 +49,10 @@ impl<L: Limits> Text<L> {
         requires { L.keeps_limits (string_bytes text) }
         ensures { result ≡ string_bytes text }
     {
+        let leading = Leading::of(text.as_bytes());
         Text {
             text,
+            leading,
             kind: PhantomData,
         }
     }
@@ -68,6 +73,7 @@ impl<L: Limits> Text<L> {
     {
         Ok(Text {
             text: self.text.clone()?,
+            leading: self.leading,
             kind: PhantomData,
         })
     }
@@ -113,7 +119,10 @@ impl<L: Limits> Ord for Text<L> {
     ghost matches_eq = { texts_ties };
 
     fn cmp(&self, other: &Self) -> Ordering {
-        self.text().cmp(other.text())
+        match self.leading.order(&other.leading) {
+            Ordering::Equal => self.text().cmp(other.text()),
+            told => told,
+        }
     }
 }
 

@@ -1,3 +1,5 @@
+pub mod BeyondLemmas
+pub mod EnteredLemmas
 pub mod ListLemmas
 pub mod EventLemmas
 pub mod BoardLemmas

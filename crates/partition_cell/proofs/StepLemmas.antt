@@ -370,6 +370,7 @@ known_itself board = record { as_many = refl; known = λ h f le is. is }
 pub same_list_built : {D : Type 0} (a b : Cell D) → b ≡ record a { disks = b.disks; moving = b.moving } → SameList a b
 same_list_built a b kept = record {
   known = subst (λ (k : Board). NoneForgotten a.board k) (sym (ap (λ (c : Cell _). c.board) kept)) (known_itself a.board);
+  told = ap (λ (c : Cell _). told_by c.board) kept;
   number = ap (λ (c : Cell _). c.number) kept;
   owner = ap (λ (c : Cell _). c.owner) kept;
   store = ap (λ (c : Cell _). c.store) kept;
@@ -380,6 +381,7 @@ same_list_built a b kept = record {
 pub same_list_joined : {D : Type 0} (a b c : Cell D) → SameList a b → SameList b c → SameList a c
 same_list_joined a b c first second = record {
   known = known_joined a.board b.board c.board first.known second.known;
+  told = second.told ∙ first.told;
   number = second.number ∙ first.number;
   owner = second.owner ∙ first.owner;
   store = second.store ∙ first.store;
@@ -388,9 +390,10 @@ same_list_joined a b c first second = record {
 }
 
 -- only the disks and a file's kind have changed
-pub same_list_set : {D : Type 0} (a b : Cell D) → b ≡ record a { disks = b.disks; board = b.board } → NoneForgotten a.board b.board → SameList a b
-same_list_set a b kept known = record {
+pub same_list_set : {D : Type 0} (a b : Cell D) → b ≡ record a { disks = b.disks; board = b.board } → NoneForgotten a.board b.board → told_by b.board ≡ told_by a.board → SameList a b
+same_list_set a b kept known told = record {
   known = known;
+  told = told;
   number = ap (λ (c : Cell _). c.number) kept;
   owner = ap (λ (c : Cell _). c.owner) kept;
   store = ap (λ (c : Cell _). c.store) kept;

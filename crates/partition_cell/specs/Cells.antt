@@ -128,6 +128,7 @@ SurvivingBefore cell change = SurvivesIn cell.board cell.owner cell.number (list
 -- what a cell keeps while a store is built: its contents, what is in flight, its owner and its store
 pub record SameList {D : Type 0} (old new : Cell D) : Type 0 where
   pub known : NoneForgotten old.board new.board
+  pub told : told_by new.board ≡ told_by old.board
   pub number : new.number ≡ old.number
   pub owner : new.owner ≡ old.owner
   pub store : new.store ≡ old.store

@@ -13,6 +13,7 @@ use disk_trait::Disk;
 impl<D: Disk> Cell<D> {
     ghost use Rattle.call_trail.specs.declared.refusal.CallRefusal.TheVariants.{Fault, NoMemory};
     ghost use Rattle.disk_lane.specs.Lanes.{LaneEvent, HasFailedOn};
+    ghost use Rattle.partition_cell.specs.Beyond.{OthersStay};
     ghost use Rattle.partition_cell.specs.Cells.{SurvivingBefore, IsSoundCell};
 
     /// Makes a mutation durable, and then changes the contents.
@@ -32,6 +33,9 @@ impl<D: Disk> Cell<D> {
 
         // At every moment, in every image, the files stand for what was durable, or for it and the mutation.
         ensures event { LaneEvent D.view self.old.owner self.old.disks self.new.disks (SurvivingBefore self.old (change_of prepared.mutation)) }
+
+        // Files 2 and up hold what they held, at every moment, in every image.
+        ensures others { OthersStay D.view self.old.owner self.old.disks self.new.disks }
 
         ensures fault { (host : ℕ) → IsErrOf result (Fault host) → (host ≡ self.old.owner) × HasFailedOn D.view host self.old.disks self.new.disks }
         ensures no_memory { IsErrOf result NoMemory → (disk : D) → slice_get self.old.disks self.old.owner ≡ Some disk → (D.view disk).spares → ⊥ }

@@ -5,10 +5,12 @@
 //! Keeps: in every crash image of the lane, on any recorded hosts with the owner among them, one sealed file has the greatest
 //!   version, and it has the contents, or these and the mutation in flight (`survives`). So it is at every moment of `commit`,
 //!   `enter` and `renew` (their clauses `event`). A commit goes to a store that is at most twice as long as its contents need,
-//!   and 65,536 bytes (`IsFit`, specs/Limits.antt); a store that was built anew has the contents and nothing else.
+//!   and 65,536 bytes (`IsFit`, specs/Limits.antt); a store that was built anew has the contents and nothing else. Which store a
+//!   cell has after `renew` and `enter` is exact (specs/Entered.antt): a fit cell keeps its own. Files 2 and up stay as they are,
+//!   in every image (`OthersStay`, specs/Beyond.antt).
 //! Hides: which of a host's two files has the store, and how a store is built.
 //! Not here: what was asked and replied (call_trail), and which store a recovery takes (newest_store).
-//! Laws: `survives`.
+//! Laws: `survives`, and EnteredLemmas and BeyondLemmas for proofs.
 //! Cost: a commit is four device calls and takes time for its record; `due` and `is_sound` look at each host's two files; a
 //!   renewal takes time for the contents, and memory for 64 of their items.
 #![tactic(auto)]

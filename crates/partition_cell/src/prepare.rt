@@ -41,10 +41,13 @@ impl Model for Prepared {
 }
 
 impl Prepared {
+    ghost use Rattle.partition_cell.specs.Entered.{record_length};
+
     /// The mutation that was prepared.
     pub fn mutation(&self) -> &Mutation
         ensures mutation { result.now ≡ self.now.mutation }
         ensures pairs { HasPairs self.now.mutation }
+        ensures spelled { length self.now.tail ≡ record_length self.now.mutation }
     {
         &self.mutation
     }

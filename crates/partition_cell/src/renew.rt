@@ -13,7 +13,9 @@ use store_ident::StoreId;
 
 impl<D: Disk> Cell<D> {
     ghost use Rattle.disk_lane.specs.Lanes.{LaneEvent, HasFailedOn};
+    ghost use Rattle.partition_cell.specs.Beyond.{OthersStay};
     ghost use Rattle.partition_cell.specs.Cells.{caches_of, Surviving, SameList, BuildGoesOn, IsSoundCell, NoneForgotten};
+    ghost use Rattle.partition_cell.specs.Entered.{next_id, IsAnew, IsNotRenewed};
     ghost use Rattle.partition_cell.specs.declared.moving.Moving.{Moving};
     ghost use Rattle.partition_cell.specs.declared.refusal.MoveRefusal.TheVariants.{Busy, VersionEnd, Fault};
     ghost use Rattle.slot_board.specs.Slots.{told_by};
@@ -29,14 +31,17 @@ impl<D: Disk> Cell<D> {
         requires epoch { epoch < 2 ^ 58 }
 
         // After Ok the new store has the contents and nothing else, and nothing is in flight or in doubt.
-        ensures renewed { IfOk result (λ id. (id ≡ self.new.store.id) × (id.epoch ≡ epoch) × (id.host ≡ self.old.owner) × IsSoundCell self.new × (id.version ≡ told_by self.old.board + 1)) }
-        ensures plain { OnOk result (self.new.store.end + 1 ≡ live (caches_of self.old)) }
-        ensures refused { OnErr result ((self.new.store ≡ self.old.store) × (self.new.flight ≡ self.old.flight)) }
+        ensures renewed { IfOk result (λ id. (id ≡ self.new.store.id) × IsSoundCell self.new) }
+        ensures anew { OnOk result (IsAnew self.old self.new epoch 0) }
+        ensures refused { OnErr result (IsNotRenewed self.old self.new) }
         ensures kept { (self.new.maps ≡ self.old.maps) × (self.new.owner ≡ self.old.owner) × (self.new.number ≡ self.old.number) × (self.new.moving ≡ self.old.moving) }
         ensures known { NoneForgotten self.old.board self.new.board }
 
         // At every moment, in every image, the files stand for what is durable, or for it and what was in flight.
         ensures event { LaneEvent D.view self.old.owner self.old.disks self.new.disks (Surviving self.old) }
+
+        // Files 2 and up hold what they held, at every moment, in every image.
+        ensures others { OthersStay D.view self.old.owner self.old.disks self.new.disks }
 
         ensures busy { (to : ℕ) → IsErrOf result (Busy to) ↔ ((moving : Moving) × (self.old.moving ≡ Some moving) × (moving.host ≡ to)) }
         ensures version_end { IsErrOf result VersionEnd ↔ ((self.old.moving ≡ None) × (told_by self.old.board + 1 ≡ 2 ^ 58)) }
@@ -62,15 +67,16 @@ impl<D: Disk> Cell<D> {
         requires version { told_by self.old.board + 1 < 2 ^ 58 }
         requires still { self.old.moving ≡ None }
         requires recorded { IsRecorded self.old.board self.old.owner }
-        ensures sealed { IfOk result (λ id. (id ≡ self.new.store.id) × (id.epoch ≡ epoch) × (id.host ≡ self.old.owner) × IsSoundCell self.new × (id.version ≡ told_by self.old.board + 1)) }
-        ensures plain { OnOk result (self.new.store.end + 1 ≡ live (caches_of self.old)) }
-        ensures refused { OnErr result ((self.new.store ≡ self.old.store) × (self.new.flight ≡ self.old.flight)) }
+        ensures sealed { IfOk result (λ id. (id ≡ self.new.store.id) × IsSoundCell self.new) }
+        ensures anew { OnOk result (IsAnew self.old self.new epoch 0) }
+        ensures refused { OnErr result (IsNotRenewed self.old self.new) }
         ensures owner { self.new.owner ≡ self.old.owner }
         ensures maps { self.new.maps ≡ self.old.maps }
         ensures number { self.new.number ≡ self.old.number }
         ensures still { self.new.moving ≡ None }
         ensures known { NoneForgotten self.old.board self.new.board }
         ensures event { LaneEvent D.view self.old.owner self.old.disks self.new.disks (Surviving self.old) }
+        ensures others { OthersStay D.view self.old.owner self.old.disks self.new.disks }
         ensures failed { IsErrOf result Failed → HasFailedOn D.view self.old.owner self.old.disks self.new.disks }
     {
         let host = self.owner();
@@ -86,10 +92,11 @@ impl<D: Disk> Cell<D> {
         requires epoch { epoch < 2 ^ 58 }
         requires version { told_by self.old.board + 1 < 2 ^ 58 }
         requires still { self.old.moving ≡ None }
-        ensures settled { OnOk result ((moving : Moving) × (self.new.moving ≡ Some moving) × (moving.host ≡ to) × (moving.build.id.epoch ≡ epoch) × (moving.build.id.host ≡ to) × (moving.build.whole ≡ true) × (moving.settled ≡ true) × (moving.build.id.version ≡ told_by self.old.board + 1)) }
+        ensures settled { OnOk result ((moving : Moving) × (self.new.moving ≡ Some moving) × (moving.host ≡ to) × (moving.build.id ≡ next_id self.old to epoch) × (moving.build.whole ≡ true) × (moving.settled ≡ true)) }
         ensures refused { OnErr result (self.new.moving ≡ None) }
         ensures same { SameList self.old self.new }
         ensures event { LaneEvent D.view to self.old.disks self.new.disks (Surviving self.old) }
+        ensures others { OthersStay D.view to self.old.disks self.new.disks }
         ensures failed { IsErrOf result Failed → HasFailedOn D.view to self.old.disks self.new.disks }
     {
         self.target_begin(to, epoch)?;
@@ -105,10 +112,11 @@ impl<D: Disk> Cell<D> {
         requires epoch { epoch < 2 ^ 58 }
         requires version { told_by self.old.board + 1 < 2 ^ 58 }
         requires still { self.old.moving ≡ None }
-        ensures begun { OnOk result ((moving : Moving) × (self.new.moving ≡ Some moving) × (moving.host ≡ to) × (moving.build.id.epoch ≡ epoch) × (moving.build.id.host ≡ to) × (moving.build.id.version ≡ told_by self.old.board + 1)) }
+        ensures begun { OnOk result ((moving : Moving) × (self.new.moving ≡ Some moving) × (moving.host ≡ to) × (moving.build.id ≡ next_id self.old to epoch)) }
         ensures refused { OnErr result (self.new.moving ≡ None) }
         ensures same { SameList self.old self.new }
         ensures event { LaneEvent D.view to self.old.disks self.new.disks (Surviving self.old) }
+        ensures others { OthersStay D.view to self.old.disks self.new.disks }
         ensures failed { IsErrOf result Failed → HasFailedOn D.view to self.old.disks self.new.disks }
     {
         let file = self.free_target(to)?;
@@ -124,6 +132,7 @@ impl<D: Disk> Cell<D> {
         ensures refused { OnErr result (self.new.moving ≡ None) }
         ensures kept { self.new ≡ record self.old { disks = self.new.disks; moving = self.new.moving } }
         ensures event { (old : Moving) → self.old.moving ≡ Some old → LaneEvent D.view old.host self.old.disks self.new.disks (Surviving self.old) }
+        ensures others { (old : Moving) → self.old.moving ≡ Some old → OthersStay D.view old.host self.old.disks self.new.disks }
         ensures failed { (old : Moving) → self.old.moving ≡ Some old → IsErrOf result Failed → HasFailedOn D.view old.host self.old.disks self.new.disks }
     {
         let _ = &self.disks;

@@ -20,6 +20,8 @@ use store_ident::StoreId;
 
 impl<D: Disk> Cell<D> {
     ghost use Rattle.disk_lane.specs.Lanes.{LaneEvent, HasFailedOn};
+    ghost use Rattle.partition_cell.specs.Beyond.{OthersStay};
+    ghost use Rattle.partition_cell.specs.Entered.{next_id};
     ghost use Rattle.partition_cell.specs.Cells.{NoneForgotten, caches_of, list_of, flight_of, IsSoundCell, Surviving};
     ghost use Rattle.partition_cell.specs.declared.moving.Moving.{Moving};
     ghost use Rattle.slot_board.specs.Slots.{slot_at, hosts_of, told_by, IsSet};
@@ -33,6 +35,7 @@ impl<D: Disk> Cell<D> {
         ensures refused { OnErr result (self.new.board ≡ self.old.board) }
         ensures kept { self.new ≡ record self.old { disks = self.new.disks; board = self.new.board } }
         ensures event { LaneEvent D.view to self.old.disks self.new.disks (SurvivesIn self.old.board self.old.owner self.old.number (list_of self.old) (flight_of self.old)) }
+        ensures others { OthersStay D.view to self.old.disks self.new.disks }
         ensures failed { IsErrOf result Failed → HasFailedOn D.view to self.old.disks self.new.disks }
     {
         let file = self.board.choose_target(to);
@@ -51,10 +54,11 @@ impl<D: Disk> Cell<D> {
         requires epoch { epoch < 2 ^ 58 }
         requires version { told_by self.old.board + 1 < 2 ^ 58 }
         requires still { self.old.moving ≡ None }
-        ensures begun { OnOk result ((moving : Moving) × (self.new.moving ≡ Some moving) × (moving.host ≡ to) × (moving.build.id.epoch ≡ epoch) × (moving.build.id.host ≡ to) × (moving.build.id.version ≡ told_by self.old.board + 1) × (moving.build.whole ≡ false)) }
+        ensures begun { OnOk result ((moving : Moving) × (self.new.moving ≡ Some moving) × (moving.host ≡ to) × (moving.build.id ≡ next_id self.old to epoch) × (moving.build.whole ≡ false)) }
         ensures refused { OnErr result (self.new.moving ≡ None) }
         ensures kept { self.new ≡ record self.old { disks = self.new.disks; moving = self.new.moving } }
         ensures event { LaneEvent D.view to self.old.disks self.new.disks (SurvivesIn self.old.board self.old.owner self.old.number (list_of self.old) (flight_of self.old)) }
+        ensures others { OthersStay D.view to self.old.disks self.new.disks }
         ensures failed { IsErrOf result Failed → HasFailedOn D.view to self.old.disks self.new.disks }
     {
         let version = match self.board.next_version() {
@@ -87,6 +91,7 @@ impl<D: Disk> Cell<D> {
         ensures refused { OnErr result (self.new.moving ≡ None) }
         ensures kept { self.new ≡ record self.old { disks = self.new.disks; moving = self.new.moving } }
         ensures event { (old : Moving) → self.old.moving ≡ Some old → LaneEvent D.view old.host self.old.disks self.new.disks (SurvivesIn self.old.board self.old.owner self.old.number (list_of self.old) (flight_of self.old)) }
+        ensures others { (old : Moving) → self.old.moving ≡ Some old → OthersStay D.view old.host self.old.disks self.new.disks }
         ensures failed { (old : Moving) → self.old.moving ≡ Some old → IsErrOf result Failed → HasFailedOn D.view old.host self.old.disks self.new.disks }
     {
         let mut moving = match self.moving.take() {
@@ -108,6 +113,7 @@ impl<D: Disk> Cell<D> {
         ensures refused { OnErr result (self.new.moving ≡ None) }
         ensures kept { self.new ≡ record self.old { disks = self.new.disks; moving = self.new.moving } }
         ensures event { (old : Moving) → self.old.moving ≡ Some old → LaneEvent D.view old.host self.old.disks self.new.disks (SurvivesIn self.old.board self.old.owner self.old.number (list_of self.old) (flight_of self.old)) }
+        ensures others { (old : Moving) → self.old.moving ≡ Some old → OthersStay D.view old.host self.old.disks self.new.disks }
         ensures failed { (old : Moving) → self.old.moving ≡ Some old → IsErrOf result Failed → HasFailedOn D.view old.host self.old.disks self.new.disks }
     {
         let mut moving = match self.moving.take() {
@@ -126,12 +132,15 @@ impl<D: Disk> Cell<D> {
         requires moving { (moving : Moving) × (self.old.moving ≡ Some moving) × (moving.build.whole ≡ true) × (moving.settled ≡ true) }
         ensures sealed { (old : Moving) → self.old.moving ≡ Some old → IfOk result (λ id. (id ≡ old.build.id) × (self.new.store.id ≡ old.build.id) × (self.new.store.file ≡ old.build.file) × (self.new.owner ≡ old.host) × IsSoundCell self.new) }
         ensures plain { OnOk result (self.new.store.end + 1 ≡ live (caches_of self.old)) }
+        ensures other { (old : Moving) → self.old.moving ≡ Some old → OnOk result (old.host ≡ self.old.owner → self.new.store.file + self.old.store.file ≡ 1) }
+        ensures told { told_by self.new.board ≡ told_by self.old.board + 1 }
         ensures refused { OnErr result ((self.new.owner ≡ self.old.owner) × (self.new.store ≡ self.old.store) × (self.new.flight ≡ self.old.flight)) }
         ensures ended { self.new.moving ≡ None }
         ensures known { NoneForgotten self.old.board self.new.board }
         ensures maps { self.new.maps ≡ self.old.maps }
         ensures number { self.new.number ≡ self.old.number }
         ensures event { (old : Moving) → self.old.moving ≡ Some old → LaneEvent D.view old.host self.old.disks self.new.disks (SurvivesIn self.old.board self.old.owner self.old.number (list_of self.old) (flight_of self.old)) }
+        ensures others { (old : Moving) → self.old.moving ≡ Some old → OthersStay D.view old.host self.old.disks self.new.disks }
         ensures failed { (old : Moving) → self.old.moving ≡ Some old → IsErrOf result Failed → HasFailedOn D.view old.host self.old.disks self.new.disks }
     {
         plain_list_leaves_the_contents();

@@ -1,10 +1,10 @@
 use Rattle.std.proofs.Common.{◌≡◌, ℕ, sym, subst, ◌∙◌, ap, Err}
 use Rattle.std.proofs.lemmas.Result.{err_from_is_err_and}
 use Rattle.disk_trait.specs.declared.DiskRefusal.TheVariants.{Failed}
-use Rattle.store_ident.specs.declared.ident.StoreId.{StoreId}
 use Rattle.disk_lane.specs.Lanes.{HasFailedOn}
 use Rattle.partition_cell.specs.Cells.{Surviving}
 use Rattle.disk_lane.proofs.LaneLemmas.{failure_later}
+use Rattle.partition_cell.proofs.BeyondLemmas.{others_joined}
 use Rattle.partition_cell.proofs.StepLemmas.{goes_host, goes_id, cells_joined, same_list_survives, same_list_built, same_list_joined}
 use Rattle.partition_cell.proofs.cell.Cell.build_whole.Goals as goal
 
@@ -72,4 +72,33 @@ returns-clause-settled g c =
     let both = same_list_joined a b d c.target_begin.ensures.same (same_list_built b d c.write_all.ensures.kept) in
     let s = c.in_ok-target_settle.ensures.settled w.0 w.1 in
     let id = s.3 ∙ goes_id _ _ c.in_ok-write_all.ensures.goes m.0 w.0 m.1 w.1 in
-    (s.0, s.1, s.2 ∙ at_host, ap (λ (i : StoreId). i.epoch) id ∙ m.3, ap (λ (i : StoreId). i.host) id ∙ m.4, s.4, s.5, ap (λ (i : StoreId). i.version) id ∙ m.5)
+    (s.0, s.1, s.2 ∙ at_host, id ∙ m.3, s.4, s.5)
+
+pub returns-in_err-write_all-clause-others : goal.returns-in_err-write_all-clause-others
+returns-in_err-write_all-clause-others g c =
+    let a = c.args.self.now in
+    let b = c.target_begin.new.self in
+    let m = c.in_ok-target_begin.ensures.begun in
+    others_joined g.D.Disk.view a.disks b.disks c.write_all.new.self.disks c.args.to c.target_begin.ensures.others m.0.host m.2 (c.write_all.ensures.event m.0 m.1).there (c.write_all.ensures.others m.0 m.1)
+
+pub returns-in_err-target_settle-clause-others : goal.returns-in_err-target_settle-clause-others
+returns-in_err-target_settle-clause-others g c =
+    let a = c.args.self.now in
+    let b = c.target_begin.new.self in
+    let m = c.in_ok-target_begin.ensures.begun in
+    let d = c.write_all.new.self in
+    let w = c.in_ok-write_all.ensures.whole in
+    let at_host = goes_host _ _ c.in_ok-write_all.ensures.goes m.0 w.0 m.1 w.1 ∙ m.2 in
+    let written = others_joined g.D.Disk.view a.disks b.disks d.disks c.args.to c.target_begin.ensures.others m.0.host m.2 (c.write_all.ensures.event m.0 m.1).there (c.write_all.ensures.others m.0 m.1) in
+    others_joined g.D.Disk.view a.disks d.disks c.target_settle.new.self.disks c.args.to written w.0.host at_host (c.target_settle.ensures.event w.0 w.1).there (c.target_settle.ensures.others w.0 w.1)
+
+pub returns-clause-others : goal.returns-clause-others
+returns-clause-others g c =
+    let a = c.args.self.now in
+    let b = c.target_begin.new.self in
+    let m = c.in_ok-target_begin.ensures.begun in
+    let d = c.write_all.new.self in
+    let w = c.in_ok-write_all.ensures.whole in
+    let at_host = goes_host _ _ c.in_ok-write_all.ensures.goes m.0 w.0 m.1 w.1 ∙ m.2 in
+    let written = others_joined g.D.Disk.view a.disks b.disks d.disks c.args.to c.target_begin.ensures.others m.0.host m.2 (c.write_all.ensures.event m.0 m.1).there (c.write_all.ensures.others m.0 m.1) in
+    others_joined g.D.Disk.view a.disks d.disks c.target_settle.new.self.disks c.args.to written w.0.host at_host (c.target_settle.ensures.event w.0 w.1).there (c.target_settle.ensures.others w.0 w.1)

@@ -5,6 +5,7 @@ use Rattle.disk_lane.specs.Lanes.{HasFailedOn}
 use Rattle.disk_lane.proofs.LaneLemmas.{some_same, failed_on}
 use Rattle.record_form.specs.GroupText.{tail_text}
 use Rattle.partition_cell.specs.Cells.{Cell, IsSoundCell}
+use Rattle.partition_cell.proofs.BeyondLemmas.{others_moved}
 use Rattle.partition_cell.proofs.CommitLemmas.{resting, header, committing, kept_in_flight, kept_longer}
 use Rattle.partition_cell.proofs.RefusalLemmas.{call_fault, call_no_memory}
 use Rattle.partition_cell.proofs.StepLemmas.{call_onward}
@@ -90,3 +91,27 @@ returns-clause-no_memory g c = rw (← c.self.view_is) (λ err disk at spares.
     let same = call_no_memory c.self.inside.owner c.in-Err.refusal (sym c.refused_call.ensures ∙ e) in
     let one = some_same disk c.index_mut.result.now (slice_get c.self.inside.disks.items c.self.inside.owner) at was in
     c.append.ensures.cause.no_memory (c.in-Err.is ∙ ap Err same) (subst (λ (d : g.row.D.Denot). (g.D.Disk.view d).spares) one spares))
+
+pub returns-clause-others : goal.returns-clause-others
+returns-clause-others g c =
+    let sound = subst (λ (s : Cell g.row.D.Denot). IsSoundCell s) (sym c.self.view_is) c.requires.sound in
+    let still = ap (λ (s : Cell g.row.D.Denot). s.moving) c.self.view_is ∙ c.requires.still in
+    let here : c.self.inside.owner < length c.self.inside.disks.items = omega (arith, c.self.invariant.hosts, c.self.invariant.ordered.there) in
+    let was = slice_get_read c.self.inside.disks.items _ c.self.inside.owner c.index_mut.result.now refl here c.index_mut.ensures.value in
+    let mutation = c.prepared.inside.mutation in
+    let spelled : c.deref.result.now ≡ tail_text (mutation ∷ []) = c.deref.ensures.value ∙ c.prepared.invariant.1 in
+    let r = resting g.D.Disk.view _ c.self.invariant sound still mutation _ was c.append.new.disk in
+    let all = c.append.ensures.moments (header g.D.Disk.view _ c.self.invariant sound still mutation _ was c.append.new.disk) r.groups (mutation ∷ []) c.prepared.invariant.0 spelled r.at_rest in
+    rw (← c.self.view_is) (others_moved g.D.Disk.view c.self.inside.disks.items c.self.inside.owner _ c.append.new.disk was c.self.inside.store.file c.self.invariant.ordered.one_of_two _ all)
+
+pub returns-in-Ok-clause-others : goal.returns-in-Ok-clause-others
+returns-in-Ok-clause-others g c =
+    let sound = subst (λ (s : Cell g.row.D.Denot). IsSoundCell s) (sym c.self.view_is) c.requires.sound in
+    let still = ap (λ (s : Cell g.row.D.Denot). s.moving) c.self.view_is ∙ c.requires.still in
+    let here : c.self.inside.owner < length c.self.inside.disks.items = omega (arith, c.self.invariant.hosts, c.self.invariant.ordered.there) in
+    let was = slice_get_read c.self.inside.disks.items _ c.self.inside.owner c.index_mut.result.now refl here c.index_mut.ensures.value in
+    let mutation = c.prepared.inside.mutation in
+    let spelled : c.deref.result.now ≡ tail_text (mutation ∷ []) = c.deref.ensures.value ∙ c.prepared.invariant.1 in
+    let r = resting g.D.Disk.view _ c.self.invariant sound still mutation _ was c.append.new.disk in
+    let all = c.append.ensures.moments (header g.D.Disk.view _ c.self.invariant sound still mutation _ was c.append.new.disk) r.groups (mutation ∷ []) c.prepared.invariant.0 spelled r.at_rest in
+    rw (← c.self.view_is) (others_moved g.D.Disk.view c.self.inside.disks.items c.self.inside.owner _ c.append.new.disk was c.self.inside.store.file c.self.invariant.ordered.one_of_two _ all)

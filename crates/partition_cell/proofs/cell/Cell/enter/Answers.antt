@@ -1,8 +1,13 @@
-use Rattle.std.proofs.Common.{◌⊎◌, inl, ◌∙◌}
+use Rattle.std.proofs.Common.{◌≡◌, ◌⊎◌, inl, inr, ℕ, ◌∙◌, ap, subst, arith, length, slice_get, Some}
+use Rattle.std.proofs.lemmas.Result.{on_ok_weaker, on_err_weaker}
 use Rattle.cache_model.specs.Change.{change_of}
 use Rattle.disk_lane.specs.Lanes.{LaneImage}
-use Rattle.disk_lane.proofs.LaneLemmas.{failure_later}
-use Rattle.partition_cell.specs.Cells.{Surviving, SurvivingBefore}
+use Rattle.disk_lane.proofs.LaneLemmas.{disk_there, failure_later}
+use Rattle.slot_board.specs.Slots.{told_by}
+use Rattle.store_journal.specs.declared.store.Store.{Store}
+use Rattle.partition_cell.proofs.EnteredLemmas.{grown_more, longer}
+use Rattle.partition_cell.specs.Cells.{Cell, Surviving, SurvivingBefore}
+use Rattle.partition_cell.proofs.BeyondLemmas.{others_joined}
 use Rattle.partition_cell.proofs.StepLemmas.{event_weaker, enter_event}
 use Rattle.partition_cell.proofs.cell.Cell.enter.Goals as goal
 
@@ -25,3 +30,41 @@ returns-clause-fault g c host is =
       at,
       failure_later g.D.Disk.view c.args.self.now.disks c.make_fit.new.self.disks c.commit.new.self.disks host c.args.self.now.owner (Surviving c.args.self.now) m.event f.1,
     )
+
+pub returns-clause-others : goal.returns-clause-others
+returns-clause-others g c =
+    let m = c.make_fit.ensures in
+    others_joined g.D.Disk.view c.args.self.now.disks c.make_fit.new.self.disks c.commit.new.self.disks c.args.self.now.owner m.others c.make_fit.new.self.owner m.kept.1 c.commit.ensures.event.there c.commit.ensures.others
+
+pub returns-clause-grown : goal.returns-clause-grown
+returns-clause-grown g c =
+    let added = length c.args.prepared.tail in
+    let told = ap (λ (x : Cell g.row.D.Denot). told_by x.board) c.commit.ensures.kept in
+    let store = c.commit.ensures.store in
+    on_ok_weaker c.commit.result
+    (λ durable. grown_more c.args.self.now c.make_fit.new.self c.commit.new.self c.args.epoch added c.in_ok-make_fit.ensures.grown
+    (longer c.make_fit.new.self c.commit.new.self added told store.0 store.1 durable.1))
+    c.commit.ensures.durable
+
+pub returns-clause-refused : goal.returns-clause-refused
+returns-clause-refused g c =
+    let told = ap (λ (x : Cell g.row.D.Denot). told_by x.board) c.commit.ensures.kept in
+    let store = c.commit.ensures.store in
+    on_err_weaker c.commit.result
+    (λ refused.
+    let end = ap (λ (s : Store). s.end) refused.1 in (
+      refused.0 ∙ c.make_fit.ensures.kept.0,
+      inr (
+        grown_more c.args.self.now c.make_fit.new.self c.commit.new.self c.args.epoch 0 c.in_ok-make_fit.ensures.grown
+            (longer c.make_fit.new.self c.commit.new.self 0 told store.0 store.1 (omega (arith, end))),
+        refused.2,
+      ),
+    ))
+    c.commit.ensures.refused
+
+pub returns-clause-no_memory : goal.returns-clause-no_memory
+returns-clause-no_memory g c err disk at spares =
+    let m = c.make_fit.ensures in
+    let mid = disk_there c.make_fit.new.self.disks c.make_fit.new.self.owner c.commit.ensures.event.there in
+    let is = subst (λ (h : ℕ). slice_get c.make_fit.new.self.disks h ≡ Some mid.0) m.kept.1 mid.1 in
+    absurd (c.commit.ensures.no_memory err mid.0 mid.1 ((m.event.onward disk mid.0 at is).spares spares))

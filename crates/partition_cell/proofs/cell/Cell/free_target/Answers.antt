@@ -11,6 +11,7 @@ use Rattle.file_kinds.specs.Freeing.{IsFreeable, IsFreedFrom}
 use Rattle.partition_cell.specs.Cells.{Cell}
 use Rattle.file_kinds.specs.Order.{IsRecorded}
 use Rattle.file_kinds.proofs.KindLemmas.{fits_freeable}
+use Rattle.partition_cell.proofs.BeyondLemmas.{others_moved}
 use Rattle.partition_cell.proofs.StepLemmas.{chosen, freeing, free_refused, free_done, call_onward}
 use Rattle.disk_lane.proofs.LaneLemmas.{failed_on}
 use Rattle.partition_cell.proofs.cell.Cell.free_target.Goals as goal
@@ -84,3 +85,21 @@ returns-clause-event g c =
     let past = subst (λ (f : ℕ). (slot_at c.self.inside.board c.args.to f).kind ≢ Current) (sym c.choose_target-file.ensures) one.1 in
     let all = subst (λ (k : SlotKind). Throughout (g.D.Disk.view c.index_mut.result.now) (g.D.Disk.view c.free.new.disk) (After (g.D.Disk.view c.index_mut.result.now) (Moved file (IsFreedFrom k)))) c.kind-kind.ensures c.free.ensures.moments in
     rw (← c.self.view_is) (freeing g.D.Disk.view _ c.self.invariant c.args.to _ was c.free.new.disk file past all (call_onward (g.D.Disk.view c.index_mut.result.now) (g.D.Disk.view c.free.new.disk) c.free.result c.free.ensures.cause c.free.ensures.tells))
+
+pub returns-in_err-free-clause-others : goal.returns-in_err-free-clause-others
+returns-in_err-free-clause-others g c =
+    let recorded = subst (λ (s : Cell g.row.D.Denot). IsRecorded s.board c.args.to) (sym c.self.view_is) c.requires.recorded in
+    let here : c.args.to < length c.self.inside.disks.items = omega (arith, c.self.invariant.hosts, recorded.there) in
+    let was = slice_get_read c.self.inside.disks.items _ c.args.to c.index_mut.result.now refl here c.index_mut.ensures.value in
+    let one = chosen c.self.inside.board _ _ c.args.to c.self.invariant.ordered recorded in
+    let file : c.choose_target-file.result ≤ 1 = omega (arith, c.choose_target-file.ensures, one.0) in
+    rw (← c.self.view_is) (others_moved g.D.Disk.view c.self.inside.disks.items c.args.to _ c.free.new.disk was c.choose_target-file.result file _ c.free.ensures.moments)
+
+pub returns-clause-others : goal.returns-clause-others
+returns-clause-others g c =
+    let recorded = subst (λ (s : Cell g.row.D.Denot). IsRecorded s.board c.args.to) (sym c.self.view_is) c.requires.recorded in
+    let here : c.args.to < length c.self.inside.disks.items = omega (arith, c.self.invariant.hosts, recorded.there) in
+    let was = slice_get_read c.self.inside.disks.items _ c.args.to c.index_mut.result.now refl here c.index_mut.ensures.value in
+    let one = chosen c.self.inside.board _ _ c.args.to c.self.invariant.ordered recorded in
+    let file : c.choose_target-file.result ≤ 1 = omega (arith, c.choose_target-file.ensures, one.0) in
+    rw (← c.self.view_is) (others_moved g.D.Disk.view c.self.inside.disks.items c.args.to _ c.free.new.disk was c.choose_target-file.result file _ c.free.ensures.moments)

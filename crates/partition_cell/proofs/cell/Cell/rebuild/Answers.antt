@@ -1,7 +1,13 @@
-use Rattle.std.proofs.Common.{◌≡◌, ℕ, sym, subst, ◌∙◌, ap, Err}
+use Rattle.std.proofs.Common.{◌≡◌, ℕ, inl, inr, arith, sym, subst, ◌∙◌, ap, Err}
 use Rattle.std.proofs.lemmas.Result.{err_from_is_err_and}
 use Rattle.disk_trait.specs.declared.DiskRefusal.TheVariants.{Failed}
-use Rattle.store_ident.specs.declared.ident.StoreId.{StoreId}
+use Rattle.store_journal.specs.declared.store.Store.{Store}
+use Rattle.cache_model.specs.PlainList.{live}
+use Rattle.partition_map.specs.Extents.{Maps, caches_in}
+use Rattle.partition_cell.specs.Beyond.{OthersStay}
+use Rattle.partition_cell.specs.Entered.{next_id, IsNotRenewed}
+use Rattle.partition_cell.proofs.EnteredLemmas.{where_refused}
+use Rattle.partition_cell.proofs.BeyondLemmas.{others_joined}
 use Rattle.disk_lane.specs.Lanes.{LaneEvent, HasFailedOn}
 use Rattle.partition_cell.specs.Cells.{Surviving}
 use Rattle.disk_lane.proofs.LaneLemmas.{failure_later}
@@ -38,12 +44,61 @@ returns-in_err-id-clause-failed g c is =
 
 pub returns-clause-sealed : goal.returns-clause-sealed
 returns-clause-sealed g c =
+    let m = c.in_ok-build_whole.ensures.settled in
+    let s = c.in_ok-id.ensures.sealed m.0 m.1 in
+    (s.0 ∙ sym s.1, s.4)
+
+pub returns-clause-anew : goal.returns-clause-anew
+returns-clause-anew g c =
     let a = c.args.self.now in
     let b = c.build_whole.new.self in
     let m = c.in_ok-build_whole.ensures.settled in
     let owner = c.owner-host.ensures in
     let s = c.in_ok-id.ensures.sealed m.0 m.1 in
-    (s.0 ∙ sym s.1, ap (λ (i : StoreId). i.epoch) s.0 ∙ m.3, ap (λ (i : StoreId). i.host) s.0 ∙ m.4 ∙ owner, s.4, ap (λ (i : StoreId). i.version) s.0 ∙ m.7)
+    let same = c.build_whole.ensures.same in
+    let size = ap (λ (l : Maps). live (caches_in l.extents)) same.maps in
+    let file = ap (λ (x : Store). x.file) same.store in
+    let other = c.in_ok-id.ensures.other m.0 m.1 (m.2 ∙ owner ∙ sym same.owner) in
+    record {
+      id = s.1 ∙ m.3 ∙ ap (λ (h : ℕ). next_id a h c.args.epoch) owner;
+      other = omega (arith, other, file);
+      end = omega (arith, c.in_ok-id.ensures.plain, size);
+      told = omega (arith, c.target_seal.ensures.told, same.told);
+    }
+
+pub returns-in_err-build_whole-clause-refused : goal.returns-in_err-build_whole-clause-refused
+returns-in_err-build_whole-clause-refused g c =
+    let same = c.build_whole.ensures.same in
+    where_refused c.from_residual.result (IsNotRenewed c.args.self.now c.build_whole.new.self) (record { store = same.store; flight = same.flight; told = inl same.told })
+
+pub returns-in_err-id-clause-refused : goal.returns-in_err-id-clause-refused
+returns-in_err-id-clause-refused g c =
+    let same = c.build_whole.ensures.same in
+    let refused = c.in_err-id.ensures.refused in
+    where_refused c.from_residual-in_err-id.result (IsNotRenewed c.args.self.now c.target_seal.new.self)
+    (record { store = refused.1 ∙ same.store; flight = refused.2 ∙ same.flight; told = inr (omega (arith, c.target_seal.ensures.told, same.told)) })
+
+pub returns-in_err-build_whole-clause-others : goal.returns-in_err-build_whole-clause-others
+returns-in_err-build_whole-clause-others g c =
+    subst (λ (h : ℕ). OthersStay g.D.Disk.view h c.args.self.now.disks c.build_whole.new.self.disks) c.owner-host.ensures c.build_whole.ensures.others
+
+pub returns-in_err-id-clause-others : goal.returns-in_err-id-clause-others
+returns-in_err-id-clause-others g c =
+    let a = c.args.self.now in
+    let b = c.build_whole.new.self in
+    let m = c.in_ok-build_whole.ensures.settled in
+    let owner = c.owner-host.ensures in
+    others_joined g.D.Disk.view a.disks b.disks c.target_seal.new.self.disks a.owner (subst (λ (h : ℕ). OthersStay g.D.Disk.view h a.disks b.disks) owner c.build_whole.ensures.others) m.0.host (m.2 ∙ owner)
+    (c.target_seal.ensures.event m.0 m.1).there (c.target_seal.ensures.others m.0 m.1)
+
+pub returns-clause-others : goal.returns-clause-others
+returns-clause-others g c =
+    let a = c.args.self.now in
+    let b = c.build_whole.new.self in
+    let m = c.in_ok-build_whole.ensures.settled in
+    let owner = c.owner-host.ensures in
+    others_joined g.D.Disk.view a.disks b.disks c.target_seal.new.self.disks a.owner (subst (λ (h : ℕ). OthersStay g.D.Disk.view h a.disks b.disks) owner c.build_whole.ensures.others) m.0.host (m.2 ∙ owner)
+    (c.target_seal.ensures.event m.0 m.1).there (c.target_seal.ensures.others m.0 m.1)
 
 pub returns-clause-owner : goal.returns-clause-owner
 returns-clause-owner g c =

@@ -1,4 +1,5 @@
 use Rattle.std.proofs.Common.{◌≡◌, Some, arith, sym, ◌∙◌, ap}
+use Rattle.partition_cell.proofs.BeyondLemmas.{others_none}
 use Rattle.partition_cell.proofs.EventLemmas.{kinds_stay}
 use Rattle.partition_cell.proofs.cell.Cell.renew.Goals as goal
 
@@ -21,3 +22,9 @@ returns-in-Some-clause-busy g c to = (
       let e : Some c.in-Some.to ≡ Some to = sym c.in-Some.is ∙ (c.target.ensures.some to).1 has in
       cc e,
 )
+
+pub returns-in-Some-clause-others : goal.returns-in-Some-clause-others
+returns-in-Some-clause-others g c = others_none g.D.Disk.view c.args.self.now.disks c.args.self.now.owner
+
+pub returns-then-is_none-clause-others : goal.returns-then-is_none-clause-others
+returns-then-is_none-clause-others g c = others_none g.D.Disk.view c.args.self.now.disks c.args.self.now.owner

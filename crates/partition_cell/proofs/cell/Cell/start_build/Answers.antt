@@ -5,8 +5,9 @@ use Rattle.slot_board.specs.declared.board.SlotKind.TheVariants.{Blank}
 use Rattle.slot_board.specs.Slots.{slot_at, hosts_of}
 use Rattle.disk_trait.specs.declared.DiskRefusal.TheVariants.{Failed}
 use Rattle.partition_cell.specs.Cells.{Cell}
-use Rattle.store_ident.specs.declared.ident.StoreId.{StoreId}
 use Rattle.file_kinds.proofs.KindLemmas.{blank_there}
+use Rattle.partition_cell.proofs.BeyondLemmas.{others_moved}
+use Rattle.partition_cell.proofs.EnteredLemmas.{id_at}
 use Rattle.partition_cell.proofs.StepLemmas.{building, build_ended, build_begun, call_onward}
 use Rattle.disk_lane.proofs.LaneLemmas.{failed_on}
 use Rattle.partition_cell.proofs.cell.Cell.start_build.Goals as goal
@@ -59,7 +60,7 @@ invariant_of-self-2 g c =
 pub returns-clause-begun : goal.returns-clause-begun
 returns-clause-begun g c =
     let b = c.in_ok-build.ensures.build in
-    rw (← c.self.view_is) (_, refl, refl, ap (λ (i : StoreId). i.epoch) b.1, ap (λ (i : StoreId). i.host) b.1, ap (λ (i : StoreId). i.version) b.1 ∙ c.in-Some.ensures.0, b.3)
+    rw (← c.self.view_is) (_, refl, refl, b.1 ∙ id_at c.self.inside.partition c.in-Some.version _ c.args.epoch c.args.to c.in-Some.ensures.0, b.3)
 
 pub returns-clause-event : goal.returns-clause-event
 returns-clause-event g c =
@@ -68,3 +69,17 @@ returns-clause-event g c =
     let was = slice_get_read c.self.inside.disks.items _ c.args.to c.index_mut.result.now refl here c.index_mut.ensures.value in
     let blank = subst (λ (s : Cell g.row.D.Denot). (slot_at s.board c.args.to c.args.file).kind ≡ Blank) (sym c.self.view_is) c.requires.blank in
     rw (← c.self.view_is) (building g.D.Disk.view _ c.self.invariant c.args.to _ was c.begin.new.disk c.args.file blank c.begin.ensures.moments (call_onward (g.D.Disk.view c.index_mut.result.now) (g.D.Disk.view c.begin.new.disk) c.begin.result c.begin.ensures.cause c.begin.ensures.tells))
+
+pub returns-in_err-build-clause-others : goal.returns-in_err-build-clause-others
+returns-in_err-build-clause-others g c =
+    let there = subst (λ (s : Cell g.row.D.Denot). c.args.to < hosts_of s.board) (sym c.self.view_is) c.requires.there in
+    let here : c.args.to < length c.self.inside.disks.items = omega (arith, c.self.invariant.hosts, there) in
+    let was = slice_get_read c.self.inside.disks.items _ c.args.to c.index_mut.result.now refl here c.index_mut.ensures.value in
+    rw (← c.self.view_is) (others_moved g.D.Disk.view c.self.inside.disks.items c.args.to _ c.begin.new.disk was c.args.file c.requires.file _ c.begin.ensures.moments)
+
+pub returns-clause-others : goal.returns-clause-others
+returns-clause-others g c =
+    let there = subst (λ (s : Cell g.row.D.Denot). c.args.to < hosts_of s.board) (sym c.self.view_is) c.requires.there in
+    let here : c.args.to < length c.self.inside.disks.items = omega (arith, c.self.invariant.hosts, there) in
+    let was = slice_get_read c.self.inside.disks.items _ c.args.to c.index_mut.result.now refl here c.index_mut.ensures.value in
+    rw (← c.self.view_is) (others_moved g.D.Disk.view c.self.inside.disks.items c.args.to _ c.begin.new.disk was c.args.file c.requires.file _ c.begin.ensures.moments)

@@ -1,4 +1,4 @@
-use Rattle.std.proofs.Common.{arith, ◌<◌, length, ◌∷◌, []}
+use Rattle.std.proofs.Common.{arith, ◌∷◌, []}
 use Rattle.cache_model.specs.Change.{reset}
 use Rattle.partition_map.specs.Extents.{caches_in}
 use Rattle.file_kinds.proofs.KindLemmas.{sealed_whole}

@@ -10,6 +10,9 @@ use Rattle.partition_cell.specs.Cells.{Cell, in_flight, target_header}
 use Rattle.file_kinds.specs.Order.{SurvivesIn}
 use Rattle.disk_lane.proofs.LaneLemmas.{some_same, failed_on}
 use Rattle.store_build.proofs.BuiltLemmas.{length-whole, built_length}
+use Rattle.partition_cell.specs.Beyond.{OthersStay}
+use Rattle.partition_cell.proofs.EnteredLemmas.{other_file}
+use Rattle.partition_cell.proofs.BeyondLemmas.{others_moved}
 use Rattle.partition_cell.proofs.StepLemmas.{call_onward}
 use Rattle.partition_cell.proofs.SealLemmas.{sealing, seal_refused, seal_done, seal_sound, refused_known, done_known}
 use Rattle.partition_cell.proofs.cell.Cell.target_seal.Goals as goal
@@ -171,3 +174,41 @@ returns-clause-plain g c =
     let settled = ap (λ (m : Moving). m.settled) (some_same c.in-Some.moving asked.0 c.self.inside.moving (sym c.take.ensures.value ∙ c.in-Some.is) asked.1) ∙ asked.3 in
     let built = target.built settled c.index_mut.result.now was in
     rw (← c.self.view_is) (ap (λ (n : ℕ). n + 1) c.finish-self-inside.ensures.2 ∙ built_length (g.D.Disk.view c.index_mut.result.now) _ _ _ _ built)
+
+pub returns-in_err-seal-clause-others : goal.returns-in_err-seal-clause-others
+returns-in_err-seal-clause-others g c =
+    let target = c.self.invariant.moves c.in-Some.moving (sym c.take.ensures.value ∙ c.in-Some.is) in
+    let here : c.in-Some.moving.host < length c.self.inside.disks.items = omega (arith, c.self.invariant.hosts, target.there) in
+    let was = slice_get_read c.self.inside.disks.items _ c.in-Some.moving.host c.index_mut.result.now refl here c.index_mut.ensures.value in
+    rw (← c.self.view_is) (λ old at.
+    let same = some_same c.in-Some.moving old c.self.inside.moving (sym c.take.ensures.value ∙ c.in-Some.is) at in
+    subst (λ (o : Moving). OthersStay g.D.Disk.view o.host c.self.inside.disks.items (slice_set c.self.inside.disks.items c.in-Some.moving.host c.seal.new.disk)) same
+    (others_moved g.D.Disk.view c.self.inside.disks.items c.in-Some.moving.host _ c.seal.new.disk was c.in-Some.moving.build.file target.one_of_two _ c.seal.ensures.moments))
+
+pub returns-clause-others : goal.returns-clause-others
+returns-clause-others g c =
+    let target = c.self.invariant.moves c.in-Some.moving (sym c.take.ensures.value ∙ c.in-Some.is) in
+    let here : c.in-Some.moving.host < length c.self.inside.disks.items = omega (arith, c.self.invariant.hosts, target.there) in
+    let was = slice_get_read c.self.inside.disks.items _ c.in-Some.moving.host c.index_mut.result.now refl here c.index_mut.ensures.value in
+    rw (← c.self.view_is) (λ old at.
+    let same = some_same c.in-Some.moving old c.self.inside.moving (sym c.take.ensures.value ∙ c.in-Some.is) at in
+    subst (λ (o : Moving). OthersStay g.D.Disk.view o.host c.self.inside.disks.items (slice_set c.self.inside.disks.items c.in-Some.moving.host c.seal.new.disk)) same
+    (others_moved g.D.Disk.view c.self.inside.disks.items c.in-Some.moving.host _ c.seal.new.disk was c.in-Some.moving.build.file target.one_of_two _ c.seal.ensures.moments))
+
+pub returns-clause-other : goal.returns-clause-other
+returns-clause-other g c =
+    let target = c.self.invariant.moves c.in-Some.moving (sym c.take.ensures.value ∙ c.in-Some.is) in
+    rw (← c.self.view_is) (λ old at here.
+    let same = some_same c.in-Some.moving old c.self.inside.moving (sym c.take.ensures.value ∙ c.in-Some.is) at in
+    let file = other_file g.D.Disk.view _ c.self.invariant c.in-Some.moving target (ap (λ (m : Moving). m.host) same ∙ here) in
+    omega (arith, c.finish-self-inside.ensures.0, file))
+
+pub returns-in_err-seal-clause-told : goal.returns-in_err-seal-clause-told
+returns-in_err-seal-clause-told g c =
+    let target = c.self.invariant.moves c.in-Some.moving (sym c.take.ensures.value ∙ c.in-Some.is) in
+    rw (← c.self.view_is) (omega (arith, c.set.ensures.told, target.next))
+
+pub returns-clause-told : goal.returns-clause-told
+returns-clause-told g c =
+    let target = c.self.invariant.moves c.in-Some.moving (sym c.take.ensures.value ∙ c.in-Some.is) in
+    rw (← c.self.view_is) (omega (arith, c.set.ensures.told, target.next, c.supersede.ensures.told, c.set-2.ensures.told))

@@ -10,6 +10,8 @@ use Rattle.partition_cell.specs.Cells.{Cell, in_flight}
 use Rattle.file_kinds.specs.Order.{SurvivesIn}
 use Rattle.disk_lane.proofs.LaneLemmas.{some_same, failed_on}
 use Rattle.store_build.proofs.BuiltLemmas.{settled_built}
+use Rattle.partition_cell.specs.Beyond.{OthersStay}
+use Rattle.partition_cell.proofs.BeyondLemmas.{others_moved}
 use Rattle.partition_cell.proofs.StepLemmas.{building, build_ended, build_goes, same_blank, call_onward, settled_building}
 use Rattle.partition_cell.proofs.cell.Cell.target_settle.Goals as goal
 
@@ -75,3 +77,23 @@ returns-clause-settled g c =
     rw (← c.self.view_is) (λ old at.
     let same = some_same c.in-Some.moving old c.self.inside.moving (sym c.take.ensures.value ∙ c.in-Some.is) at in
     (_, refl, ap (λ (m : Moving). m.host) same, ap (λ (m : Moving). m.build.id) same, whole, refl))
+
+pub returns-in_err-settle-clause-others : goal.returns-in_err-settle-clause-others
+returns-in_err-settle-clause-others g c =
+    let target = c.self.invariant.moves c.in-Some.moving (sym c.take.ensures.value ∙ c.in-Some.is) in
+    let here : c.in-Some.moving.host < length c.self.inside.disks.items = omega (arith, c.self.invariant.hosts, target.there) in
+    let was = slice_get_read c.self.inside.disks.items _ c.in-Some.moving.host c.index_mut.result.now refl here c.index_mut.ensures.value in
+    rw (← c.self.view_is) (λ old at.
+    let same = some_same c.in-Some.moving old c.self.inside.moving (sym c.take.ensures.value ∙ c.in-Some.is) at in
+    subst (λ (o : Moving). OthersStay g.D.Disk.view o.host c.self.inside.disks.items (slice_set c.self.inside.disks.items c.in-Some.moving.host c.settle.new.disk)) same
+    (others_moved g.D.Disk.view c.self.inside.disks.items c.in-Some.moving.host _ c.settle.new.disk was c.in-Some.moving.build.file target.one_of_two _ (same_blank (g.D.Disk.view c.index_mut.result.now) (g.D.Disk.view c.settle.new.disk) c.in-Some.moving.build.file (target.building c.index_mut.result.now was).blank c.settle.ensures.moments)))
+
+pub returns-clause-others : goal.returns-clause-others
+returns-clause-others g c =
+    let target = c.self.invariant.moves c.in-Some.moving (sym c.take.ensures.value ∙ c.in-Some.is) in
+    let here : c.in-Some.moving.host < length c.self.inside.disks.items = omega (arith, c.self.invariant.hosts, target.there) in
+    let was = slice_get_read c.self.inside.disks.items _ c.in-Some.moving.host c.index_mut.result.now refl here c.index_mut.ensures.value in
+    rw (← c.self.view_is) (λ old at.
+    let same = some_same c.in-Some.moving old c.self.inside.moving (sym c.take.ensures.value ∙ c.in-Some.is) at in
+    subst (λ (o : Moving). OthersStay g.D.Disk.view o.host c.self.inside.disks.items (slice_set c.self.inside.disks.items c.in-Some.moving.host c.settle.new.disk)) same
+    (others_moved g.D.Disk.view c.self.inside.disks.items c.in-Some.moving.host _ c.settle.new.disk was c.in-Some.moving.build.file target.one_of_two _ (same_blank (g.D.Disk.view c.index_mut.result.now) (g.D.Disk.view c.settle.new.disk) c.in-Some.moving.build.file (target.building c.index_mut.result.now was).blank c.settle.ensures.moments)))

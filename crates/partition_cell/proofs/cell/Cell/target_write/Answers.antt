@@ -11,6 +11,8 @@ use Rattle.file_kinds.specs.Order.{SurvivesIn}
 use Rattle.disk_lane.proofs.LaneLemmas.{some_same, failed_on}
 use Rattle.store_build.specs.declared.build.Progress.TheVariants.{More, Whole}
 use Rattle.partition_map.specs.Items.{items_after}
+use Rattle.partition_cell.specs.Beyond.{OthersStay}
+use Rattle.partition_cell.proofs.BeyondLemmas.{others_moved}
 use Rattle.partition_cell.proofs.StepLemmas.{building, build_ended, build_goes, own_onward, fewer_left}
 use Rattle.partition_cell.proofs.cell.Cell.target_write.Goals as goal
 
@@ -98,3 +100,23 @@ returns-clause-moved g c =
           (λ whole. let is = progress.1 whole in let wrong : More ≡ Whole = sym more ∙ is in cc wrong)),
       λ whole. progress.0 whole,
     ))
+
+pub returns-in_err-progress-clause-others : goal.returns-in_err-progress-clause-others
+returns-in_err-progress-clause-others g c =
+    let target = c.self.invariant.moves c.in-Some.moving (sym c.take.ensures.value ∙ c.in-Some.is) in
+    let here : c.in-Some.moving.host < length c.self.inside.disks.items = omega (arith, c.self.invariant.hosts, target.there) in
+    let was = slice_get_read c.self.inside.disks.items _ c.in-Some.moving.host c.index_mut.result.now refl here c.index_mut.ensures.value in
+    rw (← c.self.view_is) (λ old at.
+    let same = some_same c.in-Some.moving old c.self.inside.moving (sym c.take.ensures.value ∙ c.in-Some.is) at in
+    subst (λ (o : Moving). OthersStay g.D.Disk.view o.host c.self.inside.disks.items (slice_set c.self.inside.disks.items c.in-Some.moving.host c.next_batch.new.disk)) same
+    (others_moved g.D.Disk.view c.self.inside.disks.items c.in-Some.moving.host _ c.next_batch.new.disk was c.in-Some.moving.build.file target.one_of_two _ c.next_batch.ensures.moments))
+
+pub returns-clause-others : goal.returns-clause-others
+returns-clause-others g c =
+    let target = c.self.invariant.moves c.in-Some.moving (sym c.take.ensures.value ∙ c.in-Some.is) in
+    let here : c.in-Some.moving.host < length c.self.inside.disks.items = omega (arith, c.self.invariant.hosts, target.there) in
+    let was = slice_get_read c.self.inside.disks.items _ c.in-Some.moving.host c.index_mut.result.now refl here c.index_mut.ensures.value in
+    rw (← c.self.view_is) (λ old at.
+    let same = some_same c.in-Some.moving old c.self.inside.moving (sym c.take.ensures.value ∙ c.in-Some.is) at in
+    subst (λ (o : Moving). OthersStay g.D.Disk.view o.host c.self.inside.disks.items (slice_set c.self.inside.disks.items c.in-Some.moving.host c.next_batch.new.disk)) same
+    (others_moved g.D.Disk.view c.self.inside.disks.items c.in-Some.moving.host _ c.next_batch.new.disk was c.in-Some.moving.build.file target.one_of_two _ c.next_batch.ensures.moments))

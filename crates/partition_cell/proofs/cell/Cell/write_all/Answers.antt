@@ -7,6 +7,7 @@ use Rattle.partition_map.specs.Extents.{Maps, caches_in}
 use Rattle.partition_cell.specs.Cells.{Cell, Surviving, caches_of, left_in}
 use Rattle.partition_cell.proofs.EventLemmas.{kinds_stay}
 use Rattle.disk_lane.proofs.LaneLemmas.{failure_later}
+use Rattle.partition_cell.proofs.BeyondLemmas.{others_none, others_joined}
 use Rattle.partition_cell.proofs.StepLemmas.{goes_host, goes_id, cells_joined, same_list_survives, same_list_built}
 use Rattle.partition_cell.proofs.cell.Cell.write_all.Goals as goal
 
@@ -17,6 +18,7 @@ records-init g c = record {
   goes = record { before = c.requires.moving.0; after = c.requires.moving.0; was = c.requires.moving.1; is = c.requires.moving.1; host = refl; id = refl };
   event = λ old at. let target = c.self.invariant.moves old (ap (λ (s : Cell g.row.D.Denot). s.moving) c.self.view_is ∙ at) in
       rw (← c.self.view_is) (kinds_stay g.D.Disk.view _ old.host _ _ _ _ _ _ c.self.invariant.ordered c.self.invariant.hosts c.self.invariant.kinds (omega (arith, c.self.invariant.hosts, target.there)));
+  others = λ old at. others_none g.D.Disk.view c.args.self.now.disks old.host;
 }
 
 pub records-preserved : goal.records-preserved
@@ -33,6 +35,9 @@ records-preserved g c =
           (same_list_survives a c.records.self (same_list_built a c.records.self so_far.kept))
           (so_far.event old at) so_far.moving.0.host (goes_host _ _ so_far.goes old so_far.moving.0 at so_far.moving.1)
           (c.target_write.ensures.event so_far.moving.0 so_far.moving.1);
+      others = λ old at.
+          others_joined g.D.Disk.view a.disks c.records.self.disks c.target_write.new.self.disks old.host (so_far.others old at) so_far.moving.0.host (goes_host _ _ so_far.goes old so_far.moving.0 at so_far.moving.1)
+          (c.target_write.ensures.event so_far.moving.0 so_far.moving.1).there (c.target_write.ensures.others so_far.moving.0 so_far.moving.1);
     }
 
 pub returns-in_err-target_write-clause-event : goal.returns-in_err-target_write-clause-event
@@ -84,3 +89,15 @@ records-smaller g c =
     subst (λ (m : Maps). left_in (caches_in m.extents) c.target_write.new.self.moving < left_in caches c.records.self.moving) (sym maps)
     (subst (λ (o : Option Moving). left_in caches o < left_in caches c.records.self.moving) (sym now.1)
     (subst (λ (o : Option Moving). left_in caches (Some now.0) < left_in caches o) (sym so_far.moving.1) (now.4 c.in-More.is)))
+
+pub returns-in_err-target_write-clause-others : goal.returns-in_err-target_write-clause-others
+returns-in_err-target_write-clause-others g c old at =
+    let so_far = c.records.invariant in
+    others_joined g.D.Disk.view c.args.self.now.disks c.records.self.disks c.target_write.new.self.disks old.host (so_far.others old at) so_far.moving.0.host (goes_host _ _ so_far.goes old so_far.moving.0 at so_far.moving.1)
+    (c.target_write.ensures.event so_far.moving.0 so_far.moving.1).there (c.target_write.ensures.others so_far.moving.0 so_far.moving.1)
+
+pub returns-in-Whole-clause-others : goal.returns-in-Whole-clause-others
+returns-in-Whole-clause-others g c old at =
+    let so_far = c.records.invariant in
+    others_joined g.D.Disk.view c.args.self.now.disks c.records.self.disks c.target_write.new.self.disks old.host (so_far.others old at) so_far.moving.0.host (goes_host _ _ so_far.goes old so_far.moving.0 at so_far.moving.1)
+    (c.target_write.ensures.event so_far.moving.0 so_far.moving.1).there (c.target_write.ensures.others so_far.moving.0 so_far.moving.1)

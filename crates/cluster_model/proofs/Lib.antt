@@ -1,0 +1,9 @@
+pub mod LaneLemmas
+pub mod LaneStepLemmas
+pub mod SiteLemmas
+pub mod AgreementLemmas
+pub mod SiteStepLemmas
+pub mod MembersLemmas
+pub mod MemoryLemmas
+pub mod PicksLemmas
+pub mod RestartLemmas

@@ -7,3 +7,5 @@ pub mod MembersLemmas
 pub mod MemoryLemmas
 pub mod PicksLemmas
 pub mod RestartLemmas
+pub mod ActsLemmas
+pub mod TurnsLemmas

@@ -6,3 +6,5 @@ pub mod SiteSteps
 pub mod Members
 pub mod Memory
 pub mod Restart
+pub mod Acts
+pub mod Turns

@@ -9,3 +9,4 @@ pub mod PicksLemmas
 pub mod RestartLemmas
 pub mod ActsLemmas
 pub mod TurnsLemmas
+pub mod CarriedLemmas

@@ -8,3 +8,4 @@ pub mod Memory
 pub mod Restart
 pub mod Acts
 pub mod Turns
+pub mod Carried

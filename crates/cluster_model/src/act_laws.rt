@@ -7,8 +7,10 @@ ghost use Rattle.roster_form.specs.Shown.{MayShow};
 ghost use Rattle.roster_form.specs.Succession.{Succeeds, IsGoodRoster};
 ghost use Rattle.cluster_model.specs.Lane.{HostedStore, LaneStanding, HasOneFlight};
 ghost use Rattle.cluster_model.specs.LaneSteps.{standing_for, with_doubt};
-ghost use Rattle.cluster_model.specs.Agreement.{Durable};
+ghost use Rattle.cluster_model.specs.Agreement.{two_of, Durable, KeepsSite};
 ghost use Rattle.cluster_model.specs.Acts.{SiteHost, Act, appended, AreCutShort, KeepsRostersAt, KeepsRostersThroughout};
+ghost use Rattle.cluster_model.specs.Carried.{IsCarriedOver};
+ghost use Rattle.cluster_model.specs.Site.{SiteShape, SiteImage};
 ghost use Rattle.cluster_model.specs.Turns.{AreInTurn, ReachesAll, change_acts, rest_acts};
 
 /// Wherever acts are cut short, by a fault or by a stop, the rosters are kept that are kept throughout them; and of a
@@ -34,4 +36,11 @@ pub fn changes_keep_rosters()
         → ReachesAll new hosts → KeepsRostersThroughout (rest_acts new hosts durable.sights) durable }
     ensures creation { (first : Roster) (host : SiteHost) (durable : Durable) → durable.rosters ≡ record { finished = []; writing = None } → first.epoch ≡ 1 → IsGoodRoster first → first.hosts ≡ host.name ∷ []
         → ((other : Host) (roster : Roster) → MayShow durable.sights other (Some roster) → ⊥) → KeepsRostersThroughout (change_acts first (host ∷ [])) durable }
+{}
+
+/// Where the acts of a plan are carried out over images of the site, each as the contracts of its calls say of one disk, the
+/// invariant of the site is kept: after all of them, and wherever they are cut short, lanes included. Does nothing.
+pub fn a_plan_keeps_the_site()
+    ensures { (shape : SiteShape) (acts : List Act) (durable kept : Durable) (old new : SiteImage) → KeepsSite shape durable (two_of durable.rosters) old → KeepsRostersThroughout acts durable
+        → IsCarriedOver shape acts durable kept old new → KeepsSite shape kept (two_of kept.rosters) new }
 {}

@@ -8,7 +8,8 @@
 //! (`site_laws`). Each act on one disk keeps the invariant of its lane (`KeepsLane`, `lane_laws`) and of the site. What memory
 //! has fits what the disks keep (`memory_laws`). A restart picks one of the choices that the disks leave (`Picks`,
 //! specs/Restart.antt), and a stop at rest loses nothing (`restart_laws`). A change of the roster keeps the rosters wherever its
-//! acts are cut short (`AreCutShort`, specs/Acts.antt, `act_laws`).
+//! acts are cut short (`AreCutShort`, specs/Acts.antt), and so a whole plan keeps the invariant of the site (`IsCarriedOver`,
+//! specs/Carried.antt, `act_laws`).
 //! Hides: nothing; no code stands here, and each law is the contract of a function that does nothing.
 //! Not here: kinds of files (file_kinds), how rosters follow one another (roster_form), the verdict of a recovery (quorum), and
 //! the plans of commands.

@@ -9,3 +9,6 @@ pub mod SealLemmas
 pub mod MakeLemmas
 pub mod ReadyLemmas
 pub mod RefusalLemmas
+pub mod OlderLemmas
+pub mod ThroughoutLemmas
+pub mod LoadLemmas

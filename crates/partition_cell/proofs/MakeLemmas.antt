@@ -40,7 +40,7 @@ abbrev second_slot : SlotKind → Slot
 second_slot kind = record { kind = kind; version = 0 }
 
 -- a free file doesn't count, and is known
-free_counts : (kind : SlotKind) → is_free kind ≡ true → MayCount kind → ⊥
+pub free_counts : (kind : SlotKind) → is_free kind ≡ true → MayCount kind → ⊥
 free_counts Empty free may = may
 free_counts Blank free may = may
 free_counts Stale free may = cc free
@@ -48,14 +48,14 @@ free_counts Doubt free may = cc free
 free_counts Current free may = cc free
 free_counts Unknown free may = may
 
-free_known : (kind : SlotKind) → is_free kind ≡ true → kind ≢ Unknown
+pub free_known : (kind : SlotKind) → is_free kind ≡ true → kind ≢ Unknown
 free_known kind free is = let wrong : false ≡ true = ap is_free (sym is) ∙ free in cc wrong
 
 free_fresh : (kind other : SlotKind) → is_free kind ≡ true → MayCount other → kind ≡ other → ⊥
 free_fresh kind other free may is = free_counts kind free (subst MayCount (sym is) may)
 
 -- and holds what its kind says
-free_is : (number : PartitionNumber) (changes : List Change) (kind : SlotKind) (bytes : List ℕ) → is_free kind ≡ true → IsFreeable kind bytes → IsOfKind number changes [] kind 0 bytes
+pub free_is : (number : PartitionNumber) (changes : List Change) (kind : SlotKind) (bytes : List ℕ) → is_free kind ≡ true → IsFreeable kind bytes → IsOfKind number changes [] kind 0 bytes
 free_is number changes Empty bytes free is = is
 free_is number changes Blank bytes free is = is
 free_is number changes Stale bytes free is = absurd (cc free)

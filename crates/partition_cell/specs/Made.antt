@@ -1,12 +1,14 @@
 -- The first store of a partition.
-use Rattle.std.specs.Prelude.{◌≡◌, ℕ, ◌≤◌, List, [], slice_get, Some, None}
-use Rattle.disk_lane.specs.Lanes.{LaneImage}
+use Rattle.std.specs.Prelude.{⊤, ◌≡◌, ℕ, ◌≤◌, List, [], slice_get, Some, None}
+use Rattle.disk_lane.specs.Lanes.{LaneImage, HasFailedOn}
 use Rattle.disk_trait.specs.View.{Image, View}
 use Rattle.partition_map.specs.After.{AgreesWith}
 use Rattle.record_form.specs.declared.header.Header.{Header}
 use Rattle.slot_board.specs.Slots.{told_by}
 use Rattle.store_journal.specs.Created.{IsFreed, IsBegun}
 use Rattle.partition_cell.specs.Cells.{Cell, IsSoundCell}
+use Rattle.partition_cell.specs.declared.refusal.CellRefusal.{CellRefusal}
+use Rattle.partition_cell.specs.declared.refusal.CellRefusal.TheVariants.{Fault, NoStore, Damaged, NoMemory}
 
 -- the header of the first store
 abbrev pub first_header : ℕ → ℕ → ℕ → Header
@@ -34,3 +36,10 @@ pub record IsFirst {D : Type 0} (cell : Cell D) (host partition partitions : ℕ
   pub id : cell.store.id ≡ (first_header partition partitions host).id
   pub end : cell.store.end ≡ 41
   pub told : told_by cell.board ≡ 1
+
+-- why no first store was made: this host's disk failed, or memory ran out
+abbrev pub IsMakingFault : {D : Type 0} → (D → View) → ℕ → List D → List D → CellRefusal → Type 0
+IsMakingFault view host old new (Fault h) = (h ≡ host) × HasFailedOn view host old new
+IsMakingFault view host old new NoStore = ⊥
+IsMakingFault view host old new (Damaged h f at) = ⊥
+IsMakingFault view host old new NoMemory = ⊤

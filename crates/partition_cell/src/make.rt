@@ -4,7 +4,7 @@ ghost use Rattle.disk_trait.specs.View.{View, Tells};
 ghost use Rattle.disk_trait.specs.Calls.{Moved, Cause};
 ghost use Rattle.disk_trait.specs.Moments.{After, Throughout};
 ghost use Rattle.file_kinds.specs.Freeing.{IsFreeable};
-ghost use Rattle.partition_cell.specs.Made.{IsFirst, IsMaking, MakingOn, first_header};
+ghost use Rattle.partition_cell.specs.Made.{IsFirst, IsMaking, MakingOn, IsMakingFault, first_header};
 ghost use Rattle.record_form.specs.HeaderText.{IsHeader};
 ghost use Rattle.seal_gate.specs.Seal.{IsSettled, Each};
 ghost use Rattle.slot_board.specs.Slots.{is_free};
@@ -23,8 +23,7 @@ use store_ident::StoreId;
 use store_journal::Store;
 
 impl<D: Disk> Cell<D> {
-    ghost use Rattle.disk_lane.specs.Lanes.{LaneEvent, HasFailedOn};
-    ghost use Rattle.partition_cell.specs.declared.refusal.CellRefusal.TheVariants.{Fault};
+    ghost use Rattle.disk_lane.specs.Lanes.{LaneEvent};
 
     /// Makes an empty store of version 1 and epoch 1 in file 0 of the host, the first of its partition, and erases a store in its
     /// file 1. Nothing may be pending in either.
@@ -46,7 +45,7 @@ impl<D: Disk> Cell<D> {
         ensures made { IfOk result (λ cell. IsFirst cell host partition partitions) }
         ensures event { IfOk result (λ cell. LaneEvent D.view host disks.items cell.disks (MakingOn D.view host disks.items (first_header partition partitions host))) }
         ensures refused { IfErr result (λ refused. LaneEvent D.view host disks.items refused.1.items (MakingOn D.view host disks.items (first_header partition partitions host))) }
-        ensures fault { IfErr result (λ refused. (other : ℕ) → refused.0 ≡ Fault other → (other ≡ host) × HasFailedOn D.view host disks.items refused.1.items) }
+        ensures fault { IfErr result (λ refused. IsMakingFault D.view host disks.items refused.1.items refused.0) }
     {
         let header = Header {
             id: StoreId {

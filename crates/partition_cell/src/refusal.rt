@@ -10,6 +10,10 @@ use disk_trait::DiskRefusal;
 pub enum CellRefusal {
     /// The disk of this host failed.
     Fault { host: u16 },
+    /// None of the files is sealed.
+    NoStore,
+    /// This file of this host is sealed, and first leaves the form of a store of the partition at this offset, from 0.
+    Damaged { host: u16, file: u8, at: u64 },
     /// Out of memory.
     NoMemory,
 }

@@ -4,7 +4,7 @@ use Rattle.disk_lane.proofs.LaneLemmas.{failed_on}
 use Rattle.slot_board.specs.Slots.{hosts_of}
 use Rattle.partition_cell.specs.Made.{first_header}
 use Rattle.partition_cell.proofs.MakeLemmas.{made_kept, made_event}
-use Rattle.partition_cell.proofs.RefusalLemmas.{cell_fault}
+use Rattle.partition_cell.proofs.RefusalLemmas.{making_fault}
 use Rattle.partition_cell.proofs.StepLemmas.{call_onward}
 use Rattle.partition_cell.proofs.cell.Cell.create.Goals as goal
 
@@ -32,9 +32,8 @@ returns-in-Err-make_store-clause-refused g c =
     (call_onward (g.D.Disk.view c.index_mut.result.now) (g.D.Disk.view c.make_store.new.disk) c.make_store.result c.make_store.ensures.cause c.make_store.ensures.tells)
 
 pub returns-in-Err-make_store-clause-fault : goal.returns-in-Err-make_store-clause-fault
-returns-in-Err-make_store-clause-fault g c other is =
+returns-in-Err-make_store-clause-fault g c =
     let was = slice_get_read c.args.disks.items _ c.args.host c.index_mut.result.now refl c.requires.host c.index_mut.ensures.value in
-    let same = cell_fault c.args.host other c.in-Err-make_store.refusal (sym c.refused_cell.ensures ∙ is) in (
-      same.0,
-      failed_on g.D.Disk.view c.args.disks.items c.args.host _ c.make_store.new.disk was (c.make_store.ensures.cause.failed (c.in-Err-make_store.is ∙ ap Err same.1)),
-    )
+    rw c.refused_cell.ensures
+    (making_fault g.D.Disk.view c.args.host c.args.disks.items _ c.in-Err-make_store.refusal
+    (λ failed. failed_on g.D.Disk.view c.args.disks.items c.args.host _ c.make_store.new.disk was (c.make_store.ensures.cause.failed (c.in-Err-make_store.is ∙ ap Err failed))))

@@ -7,11 +7,11 @@ use Rattle.cluster_model.specs.Lane.{HostedStore, LaneStanding, choices}
 use Rattle.cluster_model.specs.Site.{SiteShape}
 use Rattle.cluster_model.specs.Agreement.{Durable}
 
--- what doesn't change in a run: the site, the length of a store that is built of these contents, the number of its items, and
--- the bytes that a change's record takes
+-- what doesn't change in a run: the site, the offset of the closed gate in a store that is built of these contents, the number of
+-- its items, and the bytes that a change's record takes
 pub record Setting : Type 0 where
   pub shape : SiteShape
-  pub live : List Change → ℕ
+  pub gate : List Change → ℕ
   pub items : List Change → ℕ
   pub taken : Change → ℕ
 
@@ -43,7 +43,7 @@ next_store setting durable partition part host changes = record {
   host = host;
   id = record { partition = partition; version = part.told + 1; epoch = epoch_or_none (last_finished durable.rosters); host = host };
   changes = changes;
-  end = setting.live changes;
+  end = setting.gate changes;
 }
 
 -- the greatest version among these stores and this one

@@ -1,10 +1,8 @@
 -- A cell of the newest store among several hosts.
-use Rattle.std.proofs.Common.{◌≡◌, ◌≢◌, ◌⊎◌, inl, inr, ⊎_elim, ℕ, ◌+◌, ◌<◌, ◌≤◌, List, [], ◌∷◌, ◌++◌, take, drop, length, refl, sym, ◌∙◌, ap, subst, arith, slice_get, slice_set, Some, None, Option, Result, Err, IsErrOf, true}
+use Rattle.std.proofs.Common.{◌≡◌, ◌≢◌, inl, inr, ⊎_elim, ℕ, ◌<◌, ◌≤◌, List, [], ◌∷◌, ◌++◌, take, drop, length, refl, sym, ◌∙◌, ap, subst, arith, slice_get, slice_set, Some, None, Option, true}
 use Rattle.std.specs.Prelude.{Contains}
 use Rattle.std.specs.List.{flat_map}
 use Rattle.std.specs.Option.{option_map_or}
-use Rattle.std.proofs.lemmas.Bool.{cases_eq}
-use Rattle.std.proofs.lemmas.List.Elements.{Contains-append_left, Contains-append_right, Contains-append_cases, Contains-push, Contains-push_cases}
 use Rattle.std.proofs.lemmas.Option.{slice_get_within}
 use Rattle.std.proofs.Math.Seq.{take-append_seam}
 use Rattle.cache_key.specs.declared.request.Mutation.{Mutation}
@@ -12,13 +10,13 @@ use Rattle.cache_model.specs.Change.{Change, changes_of, reset}
 use Rattle.cache_model.specs.Contents.{SameContents}
 use Rattle.cache_model.proofs.SameLemmas.{same_joined, same_turned}
 use Rattle.disk_lane.proofs.LaneLemmas.{some_same, disk_there, written_same}
-use Rattle.disk_trait.specs.View.{Image, View, Tells}
+use Rattle.disk_trait.specs.View.{View, Tells}
 use Rattle.disk_trait.specs.Calls.{Rose}
-use Rattle.disk_trait.specs.Moments.{Now, After, Throughout}
+use Rattle.disk_trait.specs.Moments.{After}
 use Rattle.disk_trait.proofs.Runs.{holds_now}
 use Rattle.file_kinds.specs.Kinds.{PartitionNumber, IsOfKind, MayCount}
 use Rattle.file_kinds.specs.Order.{IsOrdered, AreOfKind}
-use Rattle.newest_store.specs.Choice.{seen_on, AllTell, OnlyReadsLane, IsNewestAmong, AreHeaded, IsChoiceFault, IsFirstUnheaded}
+use Rattle.newest_store.specs.Choice.{seen_on, AllTell, OnlyReadsLane, IsNewestAmong, AreHeaded, IsChoiceFault}
 use Rattle.newest_store.specs.declared.choice.ChoiceFault.{ChoiceFault}
 use Rattle.newest_store.specs.declared.choice.ChoiceFault.TheVariants as choices
 use Rattle.newest_store.proofs.ChoiceLemmas.{reads_joined, host_read}
@@ -30,7 +28,7 @@ use Rattle.slot_board.specs.declared.board.Board.{Board}
 use Rattle.slot_board.specs.declared.board.Slot.{Slot}
 use Rattle.slot_board.specs.declared.board.SlotKind.{SlotKind}
 use Rattle.slot_board.specs.declared.board.SlotKind.TheVariants.{Empty, Blank, Stale, Doubt, Current, Unknown}
-use Rattle.slot_board.specs.Slots.{slot_at, hosts_of, told_by, is_free, IsSet}
+use Rattle.slot_board.specs.Slots.{slot_at, told_by, is_free, IsSet}
 use Rattle.store_journal.specs.AtRest.{AtRest, IsKeptIn}
 use Rattle.store_journal.specs.ContentsOf.{HasContentsOf}
 use Rattle.store_journal.specs.Created.{IsUnsealed}

@@ -1,5 +1,5 @@
 -- While older stores are erased, the files of a lane stand for what they stood for.
-use Rattle.std.proofs.Common.{◌≡◌, ◌≢◌, ◌⊎◌, inl, inr, ⊎_elim, ℕ, ◌+◌, ◌<◌, ◌≤◌, List, [], ◌∷◌, ◌++◌, take, drop, length, slice_get, Some, Option, refl, sym, ◌∙◌, ap, subst, arith}
+use Rattle.std.proofs.Common.{◌≡◌, ◌≢◌, ◌⊎◌, inl, inr, ⊎_elim, ℕ, ◌<◌, ◌≤◌, List, [], ◌∷◌, ◌++◌, take, drop, length, slice_get, Some, Option, refl, sym, ◌∙◌, ap, subst, arith}
 use Rattle.std.specs.Prelude.{Contains, All}
 use Rattle.std.specs.List.{flat_map}
 use Rattle.std.specs.Option.{option_map_or}
@@ -21,7 +21,7 @@ use Rattle.newest_store.specs.Clearing.{MayLoseSeal}
 use Rattle.record_form.specs.declared.header.Header.{Header}
 use Rattle.seal_gate.specs.Seal.{IsSealed, ButFirst, IsSettled}
 use Rattle.store_journal.specs.Stands.{version_in, IsOlder, StandsFor}
-use Rattle.store_journal.specs.Text.{IsText, IsStoreOf}
+use Rattle.store_journal.specs.Text.{IsText}
 use Rattle.store_journal.proofs.StandsLemmas.{stands_once}
 use Rattle.partition_cell.specs.Loaded.{IsLaneMoment, SameHosts, StandOn, StandsThroughout}
 use Rattle.partition_cell.specs.Older.{IsOlderFile, ErasesOnly, ErasesOlderIn}

@@ -1,4 +1,4 @@
-use Rattle.std.proofs.Common.{◌≡◌, Err, length, ◌<◌, arith, refl, sym, ap, ◌∙◌}
+use Rattle.std.proofs.Common.{◌≡◌, Err, length, ◌<◌, arith, refl, ap, ◌∙◌}
 use Rattle.std.proofs.lemmas.Option.{slice_get_read}
 use Rattle.disk_lane.proofs.LaneLemmas.{failed_on}
 use Rattle.slot_board.specs.Slots.{hosts_of}

@@ -1,5 +1,5 @@
 -- A cell with the trail of what was asked of it.
-use Rattle.std.specs.Prelude.{◌≡◌, ℕ, ◌+◌, ◌^◌, length, Result, IsErrOf, Some, None, ◌↔◌}
+use Rattle.std.specs.Prelude.{◌≡◌, ◌⊎◌, ℕ, ◌+◌, ◌^◌, length, Result, IsErrOf, Some, None, ◌↔◌}
 use Rattle.cache_key.specs.declared.request.Mutation.{Mutation}
 use Rattle.cache_key.specs.declared.request.Mutation.TheVariants.{Put, Remove, Ensure, Truncate, Destroy, Batch}
 use Rattle.cache_key.specs.declared.request.Request.{Request}
@@ -13,6 +13,7 @@ use Rattle.call_trail.specs.declared.refusal.CallRefusal.TheVariants.{Suspended,
 use Rattle.call_trail.specs.Trails.{Trail, trail_changes, most_entries}
 use Rattle.partition_cell.specs.declared.moving.Moving.{Moving}
 use Rattle.partition_cell.specs.Cells.{Cell, caches_of}
+use Rattle.partition_cell.specs.Entered.{IsNotRenewed, IsNotEntered}
 use Rattle.partition_cell.specs.Limits.{IsFit, IsFullFor}
 use Rattle.slot_board.specs.Slots.{told_by}
 
@@ -47,6 +48,18 @@ request_asking (Ensure cache) = requests.Ensure cache
 request_asking (Truncate cache) = requests.Truncate cache
 request_asking (Destroy cache) = requests.Destroy cache
 request_asking (Batch cache pairs) = requests.PutAll cache pairs
+
+-- no disk was called: only the memory of the contents may have changed
+abbrev pub IsReadied : {D : Type 0} → Cell D → Cell D → Type 0
+IsReadied old new = new ≡ record old { maps = new.maps }
+
+-- What a cell is after a mutation was refused: no disk was called, or the renewal or the commit was refused.
+abbrev pub IsHeldBack : {D : Type 0} → Cell D → Cell D → ℕ → Mutation → Type 0
+IsHeldBack old new epoch mutation = IsReadied old new ⊎ IsNotEntered old new epoch mutation
+
+-- the same where nothing is put in flight
+abbrev pub IsHeldEarly : {D : Type 0} → Cell D → Cell D → Type 0
+IsHeldEarly old new = IsReadied old new ⊎ ((IsFit old → ⊥) × IsNotRenewed old new)
 
 -- the trail has no room
 abbrev pub HasFullTrail : {D : Type 0} → KeptCell D → Type 0

@@ -1,5 +1,5 @@
 //! A client's call.
-ghost use Rattle.std.specs.Prelude.{◌≡◌, ◌⊎◌, ℕ, ◌+◌, ◌<◌, ◌≤◌, ◌^◌, List, [], ◌∷◌, ◌++◌, length, IfOk, OnOk, OnErr, IsErrOf, None, Some};
+ghost use Rattle.std.specs.Prelude.{◌≡◌, ◌⊎◌, ℕ, ◌+◌, ◌<◌, ◌≤◌, ◌^◌, List, [], ◌∷◌, ◌++◌, length, slice_get, IfOk, OnOk, OnErr, IsErrOf, None, Some};
 ghost use Rattle.cache_key.specs.declared.request.Mutation.{Mutation};
 ghost use Rattle.cache_model.specs.Change.{change_of};
 ghost use Rattle.cache_model.specs.PlainList.{HasPairs};
@@ -20,8 +20,10 @@ use std::alloc::{AllocError, Global};
 impl<D: Disk> Kept<D> {
     ghost use Rattle.call_trail.specs.declared.refusal.CallRefusal.TheVariants.{Fault, NoMemory};
     ghost use Rattle.disk_lane.specs.Lanes.{LaneImage, LaneEvent, HasFailedOn};
-    ghost use Rattle.kept_cell.specs.KeptCells.{entry_of, receipt_after, IsAskable, ReadCauses, ChangeCauses};
+    ghost use Rattle.kept_cell.specs.KeptCells.{entry_of, receipt_after, IsAskable, ReadCauses, ChangeCauses, IsHeldBack, IsHeldEarly};
+    ghost use Rattle.partition_cell.specs.Beyond.{OthersStay};
     ghost use Rattle.partition_cell.specs.Cells.{caches_of, Surviving, SurvivingBefore, IsSoundCell};
+    ghost use Rattle.partition_cell.specs.Entered.{record_length, HasGrown, IsNotRenewed, IsNotEntered};
     ghost use Rattle.partition_cell.specs.Limits.{IsFit};
     ghost use Rattle.slot_board.specs.Slots.{told_by};
 
@@ -29,8 +31,8 @@ impl<D: Disk> Kept<D> {
     /// due, the store is built anew first, in this epoch.
     ///
     /// A `PutAll` has pairs. After a refusal the contents and the trail are as before; where the owner's disk failed or ran out of
-    /// memory, what was in flight still is, or nothing is, or the mutation. Takes memory for three copies of the request and two
-    /// of the reply, beside the record: all before the first device call but that of a renewal.
+    /// memory, either what was in flight still is, or the mutation is. Takes memory for three copies of the request and two of the
+    /// reply, beside the record: all before the first device call but that of a renewal.
     pub fn call(
         &mut self,
         alloc: Global,
@@ -54,9 +56,18 @@ impl<D: Disk> Kept<D> {
         // Of a mutation, at every moment, in every image, the files stand for what was durable, or for it and what was in flight, or
         // for it and the mutation.
         ensures event { (mutation : Mutation) → mutation_of request ≡ Some mutation → LaneEvent D.view self.old.cell.owner self.old.cell.disks self.new.cell.disks (λ ms. Surviving self.old.cell ms ⊎ SurvivingBefore self.old.cell (change_of mutation) ms) }
+        ensures others { (mutation : Mutation) → mutation_of request ≡ Some mutation → OthersStay D.view self.old.cell.owner self.old.cell.disks self.new.cell.disks }
         ensures durable { (mutation : Mutation) → mutation_of request ≡ Some mutation → OnOk result (IsSoundCell self.new.cell) }
+
+        // Which store the cell has then: a fit cell's is the old one, and any other's was built anew.
+        ensures grown { (mutation : Mutation) → mutation_of request ≡ Some mutation → OnOk result (HasGrown self.old.cell self.new.cell epoch (record_length mutation)) }
+        ensures left { (mutation : Mutation) → mutation_of request ≡ Some mutation → OnErr result (IsHeldBack self.old.cell self.new.cell epoch mutation) }
+
         ensures causes { (mutation : Mutation) → mutation_of request ≡ Some mutation → ChangeCauses self.old mutation result }
         ensures fault { (host : ℕ) → IsErrOf result (Fault host) → HasFailedOn D.view host self.old.cell.disks self.new.cell.disks }
+
+        // Where the owner's disk takes no memory, the program's own ran out before the commit.
+        ensures no_memory { (mutation : Mutation) → mutation_of request ≡ Some mutation → IsErrOf result NoMemory → (disk : D) → slice_get self.old.cell.disks self.old.cell.owner ≡ Some disk → (D.view disk).spares → IsHeldEarly self.old.cell self.new.cell }
     {
         if !is_mutation(&request) {
             return self.read(alloc, client, number, request);
@@ -112,6 +123,10 @@ impl<D: Disk> Kept<D> {
         ensures base { self.new.trail.base ≡ self.old.trail.base }
         ensures refused { OnErr result ((self.new.trail.entries ≡ self.old.trail.entries) × (caches_of self.new.cell ≡ caches_of self.old.cell)) }
         ensures event { LaneEvent D.view self.old.cell.owner self.old.cell.disks self.new.cell.disks (λ ms. Surviving self.old.cell ms ⊎ SurvivingBefore self.old.cell (change_of mutation) ms) }
+        ensures grown { OnOk result (HasGrown self.old.cell self.new.cell epoch (record_length mutation)) }
+        ensures left { OnErr result (IsHeldBack self.old.cell self.new.cell epoch mutation) }
+        ensures others { OthersStay D.view self.old.cell.owner self.old.cell.disks self.new.cell.disks }
+        ensures no_memory { IsErrOf result NoMemory → (disk : D) → slice_get self.old.cell.disks self.old.cell.owner ≡ Some disk → (D.view disk).spares → IsHeldEarly self.old.cell self.new.cell }
         ensures durable { OnOk result (IsSoundCell self.new.cell) }
         ensures causes { ChangeCauses self.old mutation result }
         ensures fault { (host : ℕ) → IsErrOf result (Fault host) → HasFailedOn D.view host self.old.cell.disks self.new.cell.disks }
@@ -153,11 +168,16 @@ impl<D: Disk> Kept<D> {
         ensures base { self.new.trail.base ≡ self.old.trail.base }
         ensures refused { OnErr result ((self.new.trail.entries ≡ self.old.trail.entries) × (self.new.cell.maps ≡ self.old.cell.maps)) }
         ensures event { LaneEvent D.view self.old.cell.owner self.old.cell.disks self.new.cell.disks (λ ms. Surviving self.old.cell ms ⊎ SurvivingBefore self.old.cell (change_of prepared.mutation) ms) }
+        ensures grown { OnOk result (HasGrown self.old.cell self.new.cell epoch (record_length prepared.mutation)) }
+        ensures left { OnErr result (IsNotEntered self.old.cell self.new.cell epoch prepared.mutation) }
+        ensures others { OthersStay D.view self.old.cell.owner self.old.cell.disks self.new.cell.disks }
+        ensures no_memory { IsErrOf result NoMemory → (disk : D) → slice_get self.old.cell.disks self.old.cell.owner ≡ Some disk → (D.view disk).spares → (IsFit self.old.cell → ⊥) × IsNotRenewed self.old.cell self.new.cell }
         ensures durable { OnOk result (IsSoundCell self.new.cell) }
         ensures fault { (host : ℕ) → IsErrOf result (Fault host) → (host ≡ self.old.cell.owner) × HasFailedOn D.view host self.old.cell.disks self.new.cell.disks }
         ensures only { OnErr result ((IsErrOf result NoMemory) ⊎ (IsErrOf result (Fault self.old.cell.owner))) }
     {
         let _ = self.cell.contents();
+        let _ = prepared.mutation();
         self.cell.enter(alloc, epoch, prepared)?;
         self.trail.push(entry);
         Ok(())

@@ -1,8 +1,10 @@
-use Rattle.std.proofs.Common.{◌≡◌, ◌⊎◌, Some, sym, subst, ◌∙◌}
+use Rattle.std.proofs.Common.{◌≡◌, ◌⊎◌, OnOk, OnErr, Some, sym, subst, ◌∙◌}
 use Rattle.cache_key.specs.declared.request.Mutation.{Mutation}
 use Rattle.cache_model.specs.Change.{change_of}
 use Rattle.disk_lane.specs.Lanes.{LaneImage, LaneEvent}
 use Rattle.partition_cell.specs.Cells.{Surviving, SurvivingBefore}
+use Rattle.partition_cell.specs.Entered.{record_length, HasGrown}
+use Rattle.kept_cell.specs.KeptCells.{IsHeldBack}
 use Rattle.kept_cell.proofs.kept.Kept.call.Goals as goal
 
 pub returns-clause-event : goal.returns-clause-event
@@ -11,3 +13,15 @@ returns-clause-event g c mutation is =
     let both : Some c.in-Some.mutation ≡ Some mutation = sym c.in-Some.is ∙ c.as_mutation.ensures ∙ is in
     let same : c.in-Some.mutation ≡ mutation = cc both in
     subst (λ (m : Mutation). LaneEvent g.D.Disk.view a.owner a.disks c.change.new.self.cell.disks (λ (ms : LaneImage). Surviving a ms ⊎ SurvivingBefore a (change_of m) ms)) same c.change.ensures.event
+
+pub returns-clause-grown : goal.returns-clause-grown
+returns-clause-grown g c mutation is =
+    let both : Some c.in-Some.mutation ≡ Some mutation = sym c.in-Some.is ∙ c.as_mutation.ensures ∙ is in
+    let same : c.in-Some.mutation ≡ mutation = cc both in
+    subst (λ (m : Mutation). OnOk c.change.result (HasGrown c.args.self.now.cell c.change.new.self.cell c.args.epoch (record_length m))) same c.change.ensures.grown
+
+pub returns-clause-left : goal.returns-clause-left
+returns-clause-left g c mutation is =
+    let both : Some c.in-Some.mutation ≡ Some mutation = sym c.in-Some.is ∙ c.as_mutation.ensures ∙ is in
+    let same : c.in-Some.mutation ≡ mutation = cc both in
+    subst (λ (m : Mutation). OnErr c.change.result (IsHeldBack c.args.self.now.cell c.change.new.self.cell c.args.epoch m)) same c.change.ensures.left

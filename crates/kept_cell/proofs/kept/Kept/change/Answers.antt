@@ -1,11 +1,16 @@
-use Rattle.std.proofs.Common.{◌≡◌, ◌⊎◌, inl, inr, ⊎_elim, length, Err, Some, None, sym, subst, ap, ◌∙◌}
+use Rattle.std.proofs.Common.{◌≡◌, ◌⊎◌, inl, inr, ⊎_elim, refl, slice_get, length, Err, Some, None, sym, subst, ap, ◌∙◌}
 use Rattle.std.proofs.lemmas.Result.{err_from_is_err_and}
 use Rattle.cache_key.specs.declared.request.Mutation.{Mutation}
 use Rattle.cache_model.specs.Change.{change_of}
 use Rattle.call_trail.specs.declared.refusal.CallRefusal.TheVariants.{Fault, NoMemory}
 use Rattle.call_trail.specs.Trails.{most_entries}
 use Rattle.disk_lane.specs.Lanes.{LaneImage, LaneEvent}
-use Rattle.partition_cell.specs.Cells.{Cell, Surviving, SurvivingBefore}
+use Rattle.partition_cell.specs.Cells.{Cell, caches_of, Surviving, SurvivingBefore}
+use Rattle.partition_cell.specs.Entered.{record_length, HasGrown, IsNotEntered}
+use Rattle.partition_cell.proofs.BeyondLemmas.{others_none}
+use Rattle.partition_cell.proofs.EnteredLemmas.{where_refused}
+use Rattle.kept_cell.specs.KeptCells.{IsHeldBack}
+use Rattle.kept_cell.proofs.GrownLemmas.{readied_then, grown_before, not_renewed_before, not_entered_before, others_before}
 use Rattle.kept_cell.proofs.KeptLemmas.{uncalled, readied_event}
 use Rattle.kept_cell.proofs.CauseLemmas.{causes_pinned, causes_prepared, causes_entered}
 use Rattle.kept_cell.proofs.kept.Kept.change.Goals as goal
@@ -63,3 +68,77 @@ returns-clause-event g c =
     let of_mutation = subst (λ (m : Mutation). LaneEvent g.D.Disk.view c.prepare.new.self.owner c.prepare.new.self.disks last (λ (ms : LaneImage). Surviving c.prepare.new.self ms ⊎ SurvivingBefore c.prepare.new.self (change_of m) ms))
     c.in_ok-prepared.ensures.prepared.0 on_ready in
     rw (← c.self.view_is) (readied_event g.D.Disk.view c.self.inside.cell c.prepare.new.self last (change_of c.args.mutation) c.prepare.ensures.kept c.prepare.ensures.same of_mutation)
+
+pub returns-in-Some-clause-others : goal.returns-in-Some-clause-others
+returns-in-Some-clause-others g c = rw (← c.self.view_is) (others_none g.D.Disk.view c.self.inside.cell.disks c.self.inside.cell.owner)
+
+pub returns-then-is_full-clause-others : goal.returns-then-is_full-clause-others
+returns-then-is_full-clause-others g c = rw (← c.self.view_is) (others_none g.D.Disk.view c.self.inside.cell.disks c.self.inside.cell.owner)
+
+pub returns-in_err-prepared-clause-others : goal.returns-in_err-prepared-clause-others
+returns-in_err-prepared-clause-others g c =
+    let disks = ap (λ (x : Cell g.row.D.Denot). x.disks) c.prepare.ensures.kept in
+    rw (← c.self.view_is, disks) (others_none g.D.Disk.view c.self.inside.cell.disks c.self.inside.cell.owner)
+
+pub returns-in-Err-clause-others : goal.returns-in-Err-clause-others
+returns-in-Err-clause-others g c =
+    let disks = ap (λ (x : Cell g.row.D.Denot). x.disks) c.spell_change.ensures.cell ∙ ap (λ (x : Cell g.row.D.Denot). x.disks) c.prepare.ensures.kept in
+    rw (← c.self.view_is, disks) (others_none g.D.Disk.view c.self.inside.cell.disks c.self.inside.cell.owner)
+
+pub returns-in_err-finish-clause-others : goal.returns-in_err-finish-clause-others
+returns-in_err-finish-clause-others g c =
+    let kept = readied_then c.self.inside.cell c.prepare.new.self c.spell_change.new.self.cell c.spell_change.ensures.cell c.prepare.ensures.kept in
+    let same = ap (λ (x : Cell g.row.D.Denot). caches_of x) c.spell_change.ensures.cell ∙ c.prepare.ensures.same in
+    rw (← c.self.view_is) (others_before c.self.inside.cell c.spell_change.new.self.cell kept same g.D.Disk.view c.finish.new.self.cell.disks c.finish.ensures.others)
+
+pub returns-clause-others : goal.returns-clause-others
+returns-clause-others g c =
+    let kept = readied_then c.self.inside.cell c.prepare.new.self c.spell_change.new.self.cell c.spell_change.ensures.cell c.prepare.ensures.kept in
+    let same = ap (λ (x : Cell g.row.D.Denot). caches_of x) c.spell_change.ensures.cell ∙ c.prepare.ensures.same in
+    rw (← c.self.view_is) (others_before c.self.inside.cell c.spell_change.new.self.cell kept same g.D.Disk.view c.finish.new.self.cell.disks c.finish.ensures.others)
+
+pub returns-in-Some-clause-left : goal.returns-in-Some-clause-left
+returns-in-Some-clause-left g c = rw (← c.self.view_is) (inl refl)
+
+pub returns-then-is_full-clause-left : goal.returns-then-is_full-clause-left
+returns-then-is_full-clause-left g c = rw (← c.self.view_is) (inl refl)
+
+pub returns-in_err-prepared-clause-left : goal.returns-in_err-prepared-clause-left
+returns-in_err-prepared-clause-left g c =
+    rw (← c.self.view_is) (where_refused c.from_residual.result (IsHeldBack c.self.inside.cell c.prepare.new.self c.args.epoch c.args.mutation) (inl c.prepare.ensures.kept))
+
+pub returns-in-Err-clause-left : goal.returns-in-Err-clause-left
+returns-in-Err-clause-left g c =
+    rw (← c.self.view_is) (inl (readied_then c.self.inside.cell c.prepare.new.self c.spell_change.new.self.cell c.spell_change.ensures.cell c.prepare.ensures.kept))
+
+pub returns-in_err-finish-clause-left : goal.returns-in_err-finish-clause-left
+returns-in_err-finish-clause-left g c =
+    let kept = readied_then c.self.inside.cell c.prepare.new.self c.spell_change.new.self.cell c.spell_change.ensures.cell c.prepare.ensures.kept in
+    let same = ap (λ (x : Cell g.row.D.Denot). caches_of x) c.spell_change.ensures.cell ∙ c.prepare.ensures.same in
+    let held = subst (λ (m : Mutation). IsNotEntered c.spell_change.new.self.cell c.finish.new.self.cell c.args.epoch m) c.in_ok-prepared.ensures.prepared.0 c.in_err-finish.ensures.left in
+    rw (← c.self.view_is) (where_refused c.from_residual-in_err-finish.result (IsHeldBack c.self.inside.cell c.finish.new.self.cell c.args.epoch c.args.mutation)
+    (inr (not_entered_before c.self.inside.cell c.spell_change.new.self.cell kept same c.finish.new.self.cell c.args.epoch c.args.mutation held)))
+
+pub returns-in_err-prepared-clause-no_memory : goal.returns-in_err-prepared-clause-no_memory
+returns-in_err-prepared-clause-no_memory g c = rw (← c.self.view_is) (λ err disk at spares. inl c.prepare.ensures.kept)
+
+pub returns-in-Err-clause-no_memory : goal.returns-in-Err-clause-no_memory
+returns-in-Err-clause-no_memory g c =
+    rw (← c.self.view_is) (λ err disk at spares. inl (readied_then c.self.inside.cell c.prepare.new.self c.spell_change.new.self.cell c.spell_change.ensures.cell c.prepare.ensures.kept))
+
+pub returns-in_err-finish-clause-no_memory : goal.returns-in_err-finish-clause-no_memory
+returns-in_err-finish-clause-no_memory g c =
+    let p = err_from_is_err_and c.from_residual-in_err-finish.result c.from_residual-in_err-finish.ensures.1 in
+    let kept = readied_then c.self.inside.cell c.prepare.new.self c.spell_change.new.self.cell c.spell_change.ensures.cell c.prepare.ensures.kept in
+    let same = ap (λ (x : Cell g.row.D.Denot). caches_of x) c.spell_change.ensures.cell ∙ c.prepare.ensures.same in
+    rw (← c.self.view_is) (λ err disk at spares.
+    let e : p.0 ≡ NoMemory = cc (sym p.1 ∙ err) in
+    let here = subst (λ (x : Cell g.row.D.Denot). slice_get x.disks x.owner ≡ Some disk) (sym kept) at in
+    inr (not_renewed_before c.self.inside.cell c.spell_change.new.self.cell kept same c.finish.new.self.cell (c.finish.ensures.no_memory (c.in_err-finish.was ∙ ap Err (sym p.2 ∙ e)) disk here spares)))
+
+pub returns-clause-grown : goal.returns-clause-grown
+returns-clause-grown g c =
+    let kept = readied_then c.self.inside.cell c.prepare.new.self c.spell_change.new.self.cell c.spell_change.ensures.cell c.prepare.ensures.kept in
+    let same = ap (λ (x : Cell g.row.D.Denot). caches_of x) c.spell_change.ensures.cell ∙ c.prepare.ensures.same in
+    let grown = subst (λ (m : Mutation). HasGrown c.spell_change.new.self.cell c.finish.new.self.cell c.args.epoch (record_length m)) c.in_ok-prepared.ensures.prepared.0 c.in_ok-finish.ensures.grown in
+    rw (← c.self.view_is) (grown_before c.self.inside.cell c.spell_change.new.self.cell kept same c.finish.new.self.cell c.args.epoch (record_length c.args.mutation) grown)

@@ -2,10 +2,18 @@
 use Rattle.std.proofs.Common.{◌≡◌, ◌⊎◌, inl, inr, ⊎_elim, ℕ, suc, ◌<◌, ◌≤◌, List, [], ◌∷◌, sym, ◌∙◌, ap, subst, arith}
 use Rattle.std.specs.Prelude.{Contains}
 use Rattle.std.proofs.lemmas.Bool.{cases_eq, cases_lt}
+use Rattle.std.specs.List.{flat_map}
+use Rattle.cache_key.specs.declared.request.Mutation.{Mutation}
+use Rattle.cache_model.specs.Change.{changes_of}
+use Rattle.cache_model.specs.Contents.{SameContents}
+use Rattle.cache_model.proofs.SameLemmas.{same_joined, same_turned}
+use Rattle.record_form.specs.declared.header.Header.{Header}
 use Rattle.disk_lane.specs.Lanes.{LaneImage}
 use Rattle.seal_gate.specs.Seal.{IsSealed}
 use Rattle.store_journal.specs.Created.{IsUnsealed}
 use Rattle.store_journal.specs.Stands.{version_in}
+use Rattle.store_journal.specs.Text.{end_of}
+use Rattle.store_journal.proofs.TextOnce.{text_once}
 use Rattle.store_journal.proofs.StandsLemmas.{version_of_text}
 use Rattle.newest_store.specs.Choice.{CountsBefore}
 use Rattle.file_kinds.specs.Kinds.{PartitionNumber}
@@ -186,3 +194,50 @@ lane_opens number recorded hosts standing lane keeps are owner =
     } in
     let best = all_hosts number hosts hosts lane standing standing.store.host current.0 here (λ host is. is) start in
     (best.0, best.1.choice, opened_by number hosts hosts lane standing standing.store.host best.0 best.1 best.1.counted)
+
+-- ---- one store alone
+
+-- a sealed file is the one that opens, or is older
+pub strictly : (number : PartitionNumber) (hosts : List ℕ) (files : LaneImage) (store : HostedStore) → (opens : Opens number hosts files store) → (host f : ℕ) → Contains hosts host → f ≤ 1 → IsSealed (files host f)
+    → ((host ≡ store.host) × (f ≡ opens.file)) ⊎ (version_in (files host f) < store.id.version)
+strictly number hosts files store opens host f is low sealed = go (opens.newest.greatest host f is low sealed)
+  where
+    version : version_in (files store.host opens.file) ≡ store.id.version
+    version = version_of number store (files store.host opens.file) opens.holds
+
+    go : CountsBefore files store.host opens.file host f → ((host ≡ store.host) × (f ≡ opens.file)) ⊎ (version_in (files host f) < store.id.version)
+    go (inl less) = inr (let v = version in omega (arith, less, v))
+    go (inr same) = inl (opens.alone host f is low sealed (same.0 ∙ version))
+
+-- two that open a lane stand in one file
+same_place : (number : PartitionNumber) (hosts : List ℕ) (lane : LaneImage) (one other : HostedStore) → (first : Opens number hosts lane one) → (second : Opens number hosts lane other) → (other.host ≡ one.host) × (second.file ≡ first.file)
+same_place number hosts lane one other first second = ⊎_elim
+    (λ here. here)
+    (λ less. ⊎_elim
+    (λ here. (sym here.0, sym here.1))
+    (λ more.
+    let v = version_of number one (lane one.host first.file) first.holds in
+    let w = version_of number other (lane other.host second.file) second.holds in
+    absurd (omega (arith, less, more, v, w)))
+    (strictly number hosts lane other second one.host first.file first.newest.listed first.newest.one_of_two first.newest.sealed))
+    (strictly number hosts lane one first other.host second.file second.newest.listed second.newest.one_of_two second.newest.sealed)
+
+-- one file has one store
+held_once : (number : PartitionNumber) (one other : HostedStore) (bytes : List ℕ) → HoldsStore number one bytes → HoldsStore number other bytes → (other.id ≡ one.id) × (other.end ≡ one.end) × SameContents one.changes other.changes
+held_once number one other bytes first second =
+    let once = text_once (record { id = one.id; partitions = number.partitions }) (record { id = other.id; partitions = number.partitions }) first.text.groups second.text.groups bytes first.text.text second.text.text in
+    let mutations : first.mutations ≡ second.mutations = first.text.joined ∙ ap (λ (groups : List (List Mutation)). flat_map (λ group. group) groups) once.1 ∙ sym second.text.joined in (
+      sym (ap (λ (h : Header). h.id) once.0),
+      second.gate ∙ sym (ap end_of once.1) ∙ sym first.gate,
+      same_joined one.changes (changes_of first.mutations) other.changes (same_turned (changes_of first.mutations) one.changes first.contents)
+          (subst (λ (m : List Mutation). SameContents (changes_of m) other.changes) (sym mutations) second.contents),
+    )
+
+-- a lane opens with one store
+pub opens_once : (number : PartitionNumber) (hosts : List ℕ) (lane : LaneImage) (one other : HostedStore) → Opens number hosts lane one → Opens number hosts lane other
+    → (other.host ≡ one.host) × (other.id ≡ one.id) × (other.end ≡ one.end) × SameContents one.changes other.changes
+opens_once number hosts lane one other first second =
+    let place = same_place number hosts lane one other first second in
+    let bytes : lane other.host second.file ≡ lane one.host first.file = ap (λ (h : ℕ). lane h second.file) place.0 ∙ ap (λ (f : ℕ). lane one.host f) place.1 in
+    let held = held_once number one other (lane one.host first.file) first.holds (subst (λ (l : List ℕ). HoldsStore number other l) bytes second.holds) in
+    (place.0, held.0, held.1, held.2)

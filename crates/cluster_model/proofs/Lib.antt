@@ -10,3 +10,4 @@ pub mod RestartLemmas
 pub mod ActsLemmas
 pub mod TurnsLemmas
 pub mod CarriedLemmas
+pub mod Rows

@@ -1,11 +1,8 @@
 -- Whatever image a restart takes of the disks, there is a picked state that it keeps.
-use Rattle.std.proofs.Common.{◌≡◌, ◌⊎◌, inl, inr, ⊎_elim, ℕ, zero, suc, ◌<◌, ◌≤◌, List, [], ◌∷◌, ◌++◌, slice_get, Option, Some, None, refl, sym, ◌∙◌, ap, subst, arith}
+use Rattle.std.proofs.Common.{◌≡◌, ◌⊎◌, inl, inr, ⊎_elim, ℕ, zero, suc, ◌≤◌, List, [], ◌∷◌, ◌++◌, slice_get, Option, Some, None, refl, sym, ◌∙◌, ap, subst, arith}
 use Rattle.std.specs.Prelude.{Contains}
 use Rattle.std.proofs.lemmas.List.Elements.{Contains-append_cases}
 use Rattle.disk_lane.specs.Lanes.{LaneImage}
-use Rattle.seal_gate.specs.Seal.{IsSealed}
-use Rattle.store_journal.specs.Stands.{version_in}
-use Rattle.newest_store.specs.Choice.{CountsBefore}
 use Rattle.file_kinds.specs.Kinds.{PartitionNumber}
 use Rattle.roster_form.specs.Membership.{Host}
 use Rattle.roster_form.specs.declared.roster.Roster.{Roster}
@@ -21,24 +18,12 @@ use Rattle.cluster_model.specs.LaneSteps.{standing_for}
 use Rattle.cluster_model.specs.Site.{SiteShape, partition_of, numbers_of, DiskOf, service_disk, SiteImage, SiteView, lane_in}
 use Rattle.cluster_model.specs.Agreement.{hosts_in, some_of, IsInEach, IsShownOn, Durable, KeepsSite, IsSaved}
 use Rattle.cluster_model.specs.Restart.{later_roster, counting_roster, IsSeenOrNot, AreTaken, AreTakenBy, IsShownBySome, Picks, AreRestarted}
-use Rattle.cluster_model.proofs.LaneLemmas.{version_of, lane_opens, recorded_anew}
+use Rattle.cluster_model.proofs.LaneLemmas.{lane_opens, recorded_anew, strictly}
 use Rattle.cluster_model.proofs.SiteLemmas.{more_numbers, has_a_number}
 use Rattle.cluster_model.proofs.AgreementLemmas.{host_in, some_in}
 use Rattle.cluster_model.proofs.PicksLemmas.{picked_keeps}
 
 -- ---- one lane
-
--- a sealed file is the one that opens, or is older
-strictly : (number : PartitionNumber) (hosts : List ℕ) (files : LaneImage) (store : HostedStore) → (opens : Opens number hosts files store) → (host f : ℕ) → Contains hosts host → f ≤ 1 → IsSealed (files host f)
-    → ((host ≡ store.host) × (f ≡ opens.file)) ⊎ (version_in (files host f) < store.id.version)
-strictly number hosts files store opens host f is low sealed = go (opens.newest.greatest host f is low sealed)
-  where
-    version : version_in (files store.host opens.file) ≡ store.id.version
-    version = version_of number store (files store.host opens.file) opens.holds
-
-    go : CountsBefore files store.host opens.file host f → ((host ≡ store.host) × (f ≡ opens.file)) ⊎ (version_in (files host f) < store.id.version)
-    go (inl less) = inr (let v = version in omega (arith, less, v))
-    go (inr same) = inl (opens.alone host f is low sealed (same.0 ∙ version))
 
 -- the newest store over these hosts is what the files then stand for
 opened_keeps : (number : PartitionNumber) (recorded hosts : List ℕ) (standing : LaneStanding) (files : LaneImage) (store : HostedStore) → KeepsLane number recorded standing files → ((host : ℕ) → Contains hosts host → Contains recorded host)

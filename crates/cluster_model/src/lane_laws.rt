@@ -1,17 +1,21 @@
 //! What holds of the disks of one partition: each law is the contract of a function that does nothing.
 ghost use Rattle.std.specs.Prelude.{◌≡◌, ◌⊎◌, ℕ, ◌≤◌, List, [], Contains};
+ghost use Rattle.cache_model.specs.Contents.{SameContents};
 ghost use Rattle.disk_lane.specs.Lanes.{LaneImage};
 ghost use Rattle.store_journal.specs.Created.{IsUnsealed};
 ghost use Rattle.file_kinds.specs.Kinds.{PartitionNumber};
 ghost use Rattle.cluster_model.specs.Lane.{HostedStore, LaneStanding, HoldsStore, Opens, IsSlot, KeepsLane, choices};
 ghost use Rattle.cluster_model.specs.LaneSteps.{standing_for, with_doubt, ChangesOne, IsErasedFrom, IsAside, IsApart, IsNewerThanAll, IsMore};
 
-/// Over any hosts that are recorded and have the store's own among them, the newest store is one that may be found. A host
-/// whose files aren't sealed may be recorded, and any host may be let go. Does nothing.
+/// Over any hosts that are recorded and have the store's own among them, the newest store is one that may be found, and there
+/// is one newest store alone. A host whose files aren't sealed may be recorded, and any host may be let go. Does nothing.
 pub fn a_lane_opens()
     ensures opens { (number : PartitionNumber) (recorded hosts : List ℕ) (standing : LaneStanding) (lane : LaneImage) → KeepsLane number recorded standing lane
         → ((host : ℕ) → Contains hosts host → Contains recorded host) → Contains hosts standing.store.host
         → (store : HostedStore) × Contains (choices standing) store × Opens number hosts lane store }
+    // Whatever two stores open it are one, with the same contents.
+    ensures once { (number : PartitionNumber) (hosts : List ℕ) (lane : LaneImage) (one other : HostedStore) → Opens number hosts lane one → Opens number hosts lane other
+        → (other.host ≡ one.host) × (other.id ≡ one.id) × (other.end ≡ one.end) × SameContents one.changes other.changes }
     ensures recorded { (number : PartitionNumber) (recorded hosts : List ℕ) (standing : LaneStanding) (lane : LaneImage) → KeepsLane number recorded standing lane
         → ((host : ℕ) → Contains hosts host → Contains recorded host ⊎ ((f : ℕ) → f ≤ 1 → IsUnsealed (lane host f))) → KeepsLane number hosts standing lane }
 {}

@@ -12,7 +12,7 @@
 //! specs/Carried.antt, `act_laws`).
 //! Hides: nothing; no code stands here, and each law is the contract of a function that does nothing.
 //! Not here: kinds of files (file_kinds), how rosters follow one another (roster_form), the verdict of a recovery (quorum), and
-//! the plans of commands.
+//! the plans of commands. Worked examples: proofs/Rows.antt.
 #![tactic(auto)]
 
 pub mod act_laws;

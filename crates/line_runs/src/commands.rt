@@ -1,5 +1,5 @@
 //! Lines by hand, and the command of each.
-use crate::events::add_request;
+use crate::events::add_event;
 use crate::fixtures::{add, expect_same, lettered, letters, put_line, repeat};
 use script_lines::{Command, Event, LineFault, read_line};
 use std::alloc::Global;
@@ -31,8 +31,7 @@ fn add_command(rt: &impl Abort, text: &mut String, command: Command) {
 
 fn add_events(rt: &impl Abort, text: &mut String, events: &[Event]) {
     for event in events {
-        let Event::Call { request } = event;
-        add_request(rt, text, request);
+        add_event(rt, text, event);
     }
 }
 

@@ -1,13 +1,24 @@
-//! Events by hand: the request of each, and the reason of each list that is none.
+//! Events by hand: what each asks, and the reason of each list that is none.
 use crate::commands::words;
 use crate::fixtures::{Sizes, add, expect_same, repeat};
 use crate::line_reasons::expect_reason;
 use cache_key::{Pairs, Request};
+use script_lines::Event;
 use std::alloc::Global;
 use std::process::Abort;
 
 /// Adds what an event was read as, after a blank.
-pub(crate) fn add_request(rt: &impl Abort, text: &mut String, request: &Request) {
+pub(crate) fn add_event(rt: &impl Abort, text: &mut String, event: &Event) {
+    match event {
+        Event::Call { request } => add_request(rt, text, request),
+        Event::Renew { partition } => {
+            write!(text, " renew({partition})").expect(rt, "memory");
+        }
+    }
+}
+
+// Adds what a request was read as, after a blank.
+fn add_request(rt: &impl Abort, text: &mut String, request: &Request) {
     match request {
         Request::Get(cache, key) => {
             add(rt, text, &[" get(", cache.text(), ",", key.text(), ")"]);
@@ -47,7 +58,7 @@ pub(crate) fn line_of(rt: &impl Abort, alloc: Global, events: &str) -> String {
 }
 
 /// Events, and what they are read as.
-const REQUESTS: &[(&str, &str)] = &[
+const EVENTS: &[(&str, &str)] = &[
     (r#"["remove","c","k"]"#, "steps remove(c,k)"),
     (r#"["size","c"]"#, "steps size(c)"),
     (r#"["ensure","c"]"#, "steps ensure(c)"),
@@ -68,31 +79,43 @@ const REQUESTS: &[(&str, &str)] = &[
         r#"["putAll","c",[["\u006b","\u00e9"]]]"#,
         "steps putAll(c,k=\u{e9})",
     ),
+    (r#"["renew",0]"#, "steps renew(0)"),
+    (r#"["renew",256]"#, "steps renew(256)"),
+    // a partition that no cluster has
+    (r#"["renew",257]"#, "steps renew(257)"),
+    (r#"["renew",65535]"#, "steps renew(65535)"),
+    (
+        r#"["r\u0065new", 3 ],["get","c","k"],["renew",3]"#,
+        "steps renew(3) get(c,k) renew(3)",
+    ),
 ];
 
 #[test]
-fn an_event_is_its_request(rt: HostRuntime) {
-    for (event, want) in REQUESTS {
+fn an_event_is_what_it_asks(rt: HostRuntime) {
+    for (event, want) in EVENTS {
         let line = line_of(&rt, rt.alloc(), event);
         let got = words(&rt, rt.alloc(), line.as_bytes());
         expect_same(&rt, event, got.as_str(), *want);
     }
 }
 
-/// Lists that are no request, and the reason.
-const NO_REQUESTS: &[(&str, &str)] = &[
+// What is said of the item in the place of a partition.
+const NO_NUMBER: &str = "the partition of event 1 is not a whole number from 0 to 65535";
+
+/// Lists that are no event, and the reason.
+const NO_EVENTS: &[(&str, &str)] = &[
     // names
     (
         r#"["Size","c"]"#,
-        "event 1 has the unknown name \"Size\"; the events are get, put, remove, size, ensure, truncate, destroy, putAll",
+        "event 1 has the unknown name \"Size\"; the events are get, put, remove, size, ensure, truncate, destroy, putAll, renew",
     ),
     (
         r#"["putall","c",[["k","v"]]]"#,
-        "event 1 has the unknown name \"putall\"; the events are get, put, remove, size, ensure, truncate, destroy, putAll",
+        "event 1 has the unknown name \"putall\"; the events are get, put, remove, size, ensure, truncate, destroy, putAll, renew",
     ),
     (
         r#"["","c"]"#,
-        "event 1 has the unknown name \"\"; the events are get, put, remove, size, ensure, truncate, destroy, putAll",
+        "event 1 has the unknown name \"\"; the events are get, put, remove, size, ensure, truncate, destroy, putAll, renew",
     ),
     // numbers of items
     (
@@ -202,11 +225,37 @@ const NO_REQUESTS: &[(&str, &str)] = &[
         r#"["putAll","c",[["k",null],[]]]"#,
         "the value of pair 1 of event 1 is not a text",
     ),
+    // partitions
+    (
+        r#"["Renew",0]"#,
+        "event 1 has the unknown name \"Renew\"; the events are get, put, remove, size, ensure, truncate, destroy, putAll, renew",
+    ),
+    (
+        r#"["renew"]"#,
+        "event 1 needs 1 item after \"renew\", the partition, and has 0",
+    ),
+    (
+        r#"["renew",0,1]"#,
+        "event 1 needs 1 item after \"renew\", the partition, and has 2",
+    ),
+    (r#"["renew",65536]"#, NO_NUMBER),
+    (r#"["renew",18446744073709551615]"#, NO_NUMBER),
+    (r#"["renew",18446744073709551616]"#, NO_NUMBER),
+    (r#"["renew",-1]"#, NO_NUMBER),
+    (r#"["renew",-0]"#, NO_NUMBER),
+    (r#"["renew",1.0]"#, NO_NUMBER),
+    (r#"["renew",1e0]"#, NO_NUMBER),
+    (r#"["renew",0.5]"#, NO_NUMBER),
+    (r#"["renew","0"]"#, NO_NUMBER),
+    (r#"["renew",null]"#, NO_NUMBER),
+    (r#"["renew",true]"#, NO_NUMBER),
+    (r#"["renew",[0]]"#, NO_NUMBER),
+    (r#"["renew",{}]"#, NO_NUMBER),
 ];
 
 #[test]
-fn a_list_that_is_no_request_has_its_reason(rt: HostRuntime) {
-    for (event, want) in NO_REQUESTS {
+fn a_list_that_is_no_event_has_its_reason(rt: HostRuntime) {
+    for (event, want) in NO_EVENTS {
         let line = line_of(&rt, rt.alloc(), event);
         expect_reason(&rt, rt.alloc(), line.as_bytes(), want);
     }

@@ -127,14 +127,14 @@ const OBJECTS: &[(&str, &str)] = &[
     ),
 ];
 
-/// Second events that are no request, and the reason.
+/// Second events that are none, and the reason.
 const EVENTS: &[(&str, &str)] = &[
     (r#""get""#, "event 2 is not a list"),
     ("[]", "event 2 is empty"),
     (r#"[1,"c"]"#, "the name of event 2 is not a text"),
     (
         r#"["GET","c","k"]"#,
-        "event 2 has the unknown name \"GET\"; the events are get, put, remove, size, ensure, truncate, destroy, putAll",
+        "event 2 has the unknown name \"GET\"; the events are get, put, remove, size, ensure, truncate, destroy, putAll, renew",
     ),
     (
         r#"["get","c"]"#,
@@ -156,6 +156,10 @@ const EVENTS: &[(&str, &str)] = &[
         r#"["put","c/d","k","v"]"#,
         "the cache of event 2 has the byte 0x2f at offset 1 (a name has A-Z a-z 0-9 _ . - alone)",
     ),
+    (
+        r#"["renew","c"]"#,
+        "the partition of event 2 is not a whole number from 0 to 65535",
+    ),
 ];
 
 #[test]
@@ -173,7 +177,7 @@ fn an_object_that_is_no_command_has_its_reason(rt: HostRuntime) {
 }
 
 #[test]
-fn an_event_that_is_no_request_has_its_reason(rt: HostRuntime) {
+fn a_second_event_that_is_none_has_its_reason(rt: HostRuntime) {
     for (event, want) in EVENTS {
         let mut line = String::new(rt.alloc());
         let before = r#"{"do":"steps","events":[["get","c","k"],"#;

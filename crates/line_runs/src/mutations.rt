@@ -22,18 +22,25 @@ fn events_of(rt: &impl Abort, alloc: Global, events: &str) -> Vec<Event> {
     }
 }
 
+// The request of an event, if it has one.
+fn asked(event: Event) -> Option<Request> {
+    match event {
+        Event::Call { request } => Some(request),
+        Event::Renew { .. } => None,
+    }
+}
+
 // The request of the one event.
 fn request_of(rt: &impl Abort, alloc: Global, event: &str) -> Request {
     let last = events_of(rt, alloc, event).pop();
-    let Event::Call { request } = last.expect(rt, event);
-    request
+    last.and_then(asked).expect(rt, event)
 }
 
 // The mutations that these events are.
 fn mutations_of(rt: &impl Abort, alloc: Global, events: &str) -> Vec<Mutation> {
     let mut mutations = Vec::new(alloc);
     for event in events_of(rt, alloc, events) {
-        let Event::Call { request } = event;
+        let request = asked(event).expect(rt, events);
         let mutation = as_mutation(request).expect(rt, events);
         mutations.push(mutation).expect(rt, events);
     }

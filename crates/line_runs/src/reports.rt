@@ -40,6 +40,47 @@ fn refusals_have_their_lines(rt: HostRuntime) {
     expect_refusal(&rt, alloc, Refusal::Open, "{\"refused\":\"open\"}\n");
     let want = "{\"refused\":\"notCreated\"}\n";
     expect_refusal(&rt, alloc, Refusal::NotCreated, want);
+    let want = "{\"refused\":\"trailFull\"}\n";
+    expect_refusal(&rt, alloc, Refusal::TrailFull, want);
+    let want = "{\"refused\":\"versionEnd\"}\n";
+    expect_refusal(&rt, alloc, Refusal::VersionEnd, want);
+}
+
+/// Numbers, and the lines of the refusals of a partition that isn't there.
+const NO_PARTITIONS: &[(u16, &str)] = &[
+    (1, "{\"partition\":1,\"refused\":\"noPartition\"}\n"),
+    (
+        u16::MAX,
+        "{\"partition\":65535,\"refused\":\"noPartition\"}\n",
+    ),
+];
+
+#[test]
+fn partitions_that_are_not_there_have_their_lines(rt: HostRuntime) {
+    for (partition, want) in NO_PARTITIONS {
+        let partition = *partition;
+        expect_refusal(&rt, rt.alloc(), Refusal::NoPartition { partition }, want);
+    }
+}
+
+/// Lengths, and the lines of the refusals of a change for which a store has no room.
+const FULL_STORES: &[(u64, &str)] = &[
+    (
+        67_056_765,
+        "{\"live\":67056765,\"refused\":\"storeFull\"}\n",
+    ),
+    (
+        u64::MAX,
+        "{\"live\":18446744073709551615,\"refused\":\"storeFull\"}\n",
+    ),
+];
+
+#[test]
+fn full_stores_have_their_lines(rt: HostRuntime) {
+    for (live, want) in FULL_STORES {
+        let live = *live;
+        expect_refusal(&rt, rt.alloc(), Refusal::StoreFull { live }, want);
+    }
 }
 
 #[test]
@@ -115,6 +156,8 @@ enum Item {
     Done,
     Fault(&'static str),
     Closed,
+    NoPartition(u16),
+    Renewed(u16, u64, u64, u16),
 }
 
 /// The outcome that an item of a table stands for.
@@ -132,6 +175,21 @@ fn outcome(rt: &impl Abort, alloc: Global, item: &Item) -> Outcome {
         Item::Closed => {
             let refusal = Refusal::Closed;
             return Outcome::Refused { refusal };
+        }
+        Item::NoPartition(partition) => {
+            let partition = *partition;
+            let refusal = Refusal::NoPartition { partition };
+            return Outcome::Refused { refusal };
+        }
+        Item::Renewed(partition, version, epoch, host) => {
+            let partition = *partition;
+            let id = StoreId {
+                partition,
+                version: *version,
+                epoch: *epoch,
+                host: *host,
+            };
+            return Outcome::Renewed { partition, id };
         }
     };
     Outcome::Replied { reply }
@@ -166,6 +224,14 @@ const STEPS: &[(&[Item], &str)] = &[
     (
         &[Item::NoValue, Item::Fault("a"), Item::Closed],
         "{\"steps\":[{\"value\":null},{\"host\":\"a\",\"refused\":\"fault\"},{\"refused\":\"closed\"}]}\n",
+    ),
+    (
+        &[
+            Item::Renewed(0, 2, 1, 0),
+            Item::NoPartition(1),
+            Item::Renewed(5, 255, 3, 1),
+        ],
+        "{\"steps\":[{\"id\":\"0-2-1-0\",\"renewed\":0},{\"partition\":1,\"refused\":\"noPartition\"},{\"id\":\"5-ff-3-1\",\"renewed\":5}]}\n",
     ),
 ];
 

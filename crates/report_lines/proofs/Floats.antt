@@ -34,6 +34,10 @@ has_float-refusal_data (refusals.NotMember host) = refl
 has_float-refusal_data (refusals.Fault host) = refl
 has_float-refusal_data refusals.NotCreated = refl
 has_float-refusal_data (refusals.Damaged host partition file at) = refl
+has_float-refusal_data (refusals.NoPartition partition) = refl
+has_float-refusal_data (refusals.StoreFull live) = refl
+has_float-refusal_data refusals.TrailFull = refl
+has_float-refusal_data refusals.VersionEnd = refl
 
 has_float-reply_data : (reply : Reply) → has_float (reply_data reply) ≡ false
 has_float-reply_data (replies.Value None) = refl
@@ -45,6 +49,7 @@ items_have_float-outcomes_data : (outcomes : List Outcome) → items_have_float 
 items_have_float-outcomes_data [] = refl
 items_have_float-outcomes_data (events.Replied reply ∷ outcomes) = rw (has_float-reply_data reply) (items_have_float-outcomes_data outcomes)
 items_have_float-outcomes_data (events.Refused refusal ∷ outcomes) = rw (has_float-refusal_data refusal) (items_have_float-outcomes_data outcomes)
+items_have_float-outcomes_data (events.Renewed partition id ∷ outcomes) = items_have_float-outcomes_data outcomes
 
 pub has_float-answer_data : (answer : Answer) → has_float (answer_data answer) ≡ false
 has_float-answer_data (Created host) = refl

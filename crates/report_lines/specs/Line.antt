@@ -6,6 +6,7 @@ use Rattle.cache_key.specs.declared.request.Reply.{Reply}
 use Rattle.cache_key.specs.declared.request.Reply.TheVariants as replies
 use Rattle.cache_model.specs.Caches.{Pairs, Caches}
 use Rattle.store_ident.specs.Ident.{ident_text}
+use Rattle.store_ident.specs.declared.ident.StoreId.{StoreId}
 use Rattle.script_lines.specs.declared.answer.Answer.{Answer}
 use Rattle.script_lines.specs.declared.answer.Answer.TheVariants.{Created, Dumped, Stepped, Refused, Stopped, Recovered}
 use Rattle.script_lines.specs.declared.answer.Outcome.{Outcome}
@@ -46,6 +47,10 @@ dumps_data (dump ∷ dumps) = item (dump_data dump) (dumps_data dumps)
 abbrev pub host_refusal : List ℕ → List ℕ → Data
 host_refusal name host = object (member (codes "host") (string host) (member (codes "refused") (string name) no_members))
 
+-- a refusal that says a number, under a name that stands before `refused`
+abbrev pub number_refusal : List ℕ → List ℕ → ℕ → Data
+number_refusal name what n = object (member what (number (unsigned n)) (member (codes "refused") (string name) no_members))
+
 -- a damaged store of the host
 abbrev pub damage_data : List ℕ → ℕ → ℕ → ℕ → Data
 damage_data host partition file at = object (member (codes "at") (number (unsigned at))
@@ -61,6 +66,10 @@ refusal_data (refusals.NotMember host) = host_refusal (codes "notMember") host
 refusal_data (refusals.Fault host) = host_refusal (codes "fault") host
 refusal_data refusals.NotCreated = single (codes "refused") (string (codes "notCreated"))
 refusal_data (refusals.Damaged host partition file at) = damage_data host partition file at
+refusal_data (refusals.NoPartition partition) = number_refusal (codes "noPartition") (codes "partition") partition
+refusal_data (refusals.StoreFull live) = number_refusal (codes "storeFull") (codes "live") live
+refusal_data refusals.TrailFull = single (codes "refused") (string (codes "trailFull"))
+refusal_data refusals.VersionEnd = single (codes "refused") (string (codes "versionEnd"))
 
 -- ---- replies, and outcomes of events
 
@@ -73,9 +82,14 @@ reply_data (replies.Value value) = single (codes "value") (optional_data value)
 reply_data (replies.Count count) = single (codes "count") (number (unsigned count))
 reply_data replies.Done = string (codes "done")
 
+-- a partition whose store was built anew, with the store's identifier
+abbrev pub renewed_data : ℕ → StoreId → Data
+renewed_data partition id = object (member (codes "id") (string (ident_text id)) (member (codes "renewed") (number (unsigned partition)) no_members))
+
 abbrev pub outcome_data : Outcome → Data
 outcome_data (events.Replied reply) = reply_data reply
 outcome_data (events.Refused refusal) = refusal_data refusal
+outcome_data (events.Renewed partition id) = renewed_data partition id
 
 abbrev pub outcomes_data : List Outcome → Items
 outcomes_data [] = no_items

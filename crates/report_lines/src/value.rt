@@ -79,6 +79,10 @@ fn outcome_value(alloc: Global, outcome: &Outcome) -> Result<Value, AllocError>
     match outcome {
         Outcome::Replied { reply } => reply_value(alloc, reply),
         Outcome::Refused { refusal } => refusal_value(alloc, refusal),
+        Outcome::Renewed { partition, id } => {
+            let id = id.text(alloc)?;
+            json!(in alloc; {"id": id, "renewed": *partition})
+        }
     }
 }
 
@@ -124,6 +128,12 @@ fn refusal_value(alloc: Global, refusal: &Refusal) -> Result<Value, AllocError>
             "partition": *partition,
             "refused": "damaged"
         }),
+        Refusal::NoPartition { partition } => {
+            json!(in alloc; {"partition": *partition, "refused": "noPartition"})
+        }
+        Refusal::StoreFull { live } => json!(in alloc; {"live": *live, "refused": "storeFull"}),
+        Refusal::TrailFull => json!(in alloc; {"refused": "trailFull"}),
+        Refusal::VersionEnd => json!(in alloc; {"refused": "versionEnd"}),
     }
 }
 

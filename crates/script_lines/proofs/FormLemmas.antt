@@ -1,15 +1,11 @@
 -- Laws of the forms: data is at most one command.
 use Rattle.std.proofs.Common.{◌≡◌, ℕ, List, [], ◌∷◌, Some, refl, sym, ap, ◌∙◌, arith}
 use Rattle.serde_json.specs.Data.{Data, string, object, member}
-use Rattle.script_lines.specs.Form.{event_data, events_data, command_data, IsLineOf}
+use Rattle.script_lines.specs.Form.{events_data, command_data, IsLineOf}
 use Rattle.script_lines.specs.declared.command.Command.{Command}
 use Rattle.script_lines.specs.declared.command.Command.TheVariants.{Create, Dump, Steps, Stop, Recover}
 use Rattle.script_lines.specs.declared.command.Event.{Event}
-use Rattle.script_lines.specs.declared.command.Event.TheVariants.{Call}
-use Rattle.script_lines.proofs.RequestLemmas.{request_data-injective}
-
-event_data-injective : (a b : Event) → event_data a ≡ event_data b → a ≡ b
-event_data-injective (Call a) (Call b) e = ap Call (request_data-injective a b e)
+use Rattle.script_lines.proofs.AskedLemmas.{event_data-injective}
 
 events_data-injective : (xs ys : List Event) → events_data xs ≡ events_data ys → xs ≡ ys
 events_data-injective [] [] e = refl

@@ -1,6 +1,6 @@
+pub mod AskedLemmas
 pub mod EventLemmas
 pub mod FormLemmas
 pub mod PairLemmas
 pub mod ReadingLemmas
-pub mod RequestLemmas
 pub mod ShapeLemmas

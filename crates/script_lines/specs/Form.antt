@@ -1,8 +1,8 @@
 -- The JSON object of each command, with exactly these members, and the lines that are commands. Texts are their bytes.
-use Rattle.std.specs.Prelude.{◌≡◌, ℕ, ◌≤◌, List, [], ◌∷◌, length, Some, codes, All}
+use Rattle.std.specs.Prelude.{◌≡◌, ℕ, ◌≤◌, ◌<◌, List, [], ◌∷◌, length, Some, codes, All}
 use Rattle.std.specs.List.{AllByRecursion}
 use Rattle.std.specs.Str.{IsUtf8}
-use Rattle.serde_json.specs.Data.{Data, string, array, object, Items, no_items, item, no_members, member}
+use Rattle.serde_json.specs.Data.{Data, unsigned, number, string, array, object, Items, no_items, item, no_members, member}
 use Rattle.serde_json.specs.Read.{read}
 use Rattle.cache_key.specs.Names.{IsName, IsKey, IsValue, IsPair, most_pairs}
 use Rattle.cache_key.specs.declared.request.Request.{Request}
@@ -10,7 +10,7 @@ use Rattle.cache_key.specs.declared.request.Request.TheVariants.{Get, Put, Remov
 use Rattle.script_lines.specs.declared.command.Command.{Command}
 use Rattle.script_lines.specs.declared.command.Command.TheVariants.{Create, Dump, Steps, Stop, Recover}
 use Rattle.script_lines.specs.declared.command.Event.{Event}
-use Rattle.script_lines.specs.declared.command.Event.TheVariants.{Call}
+use Rattle.script_lines.specs.declared.command.Event.TheVariants.{Call, Renew}
 
 -- a list that begins with this name
 abbrev pub named_list : List ℕ → Items → Data
@@ -35,9 +35,10 @@ request_data (Truncate cache) = named_list (codes "truncate") (item (string cach
 request_data (Destroy cache) = named_list (codes "destroy") (item (string cache) no_items)
 request_data (PutAll cache pairs) = named_list (codes "putAll") (item (string cache) (item (array (pair_items pairs)) no_items))
 
--- an event that asks a cache is the list of the request
+-- an event that asks a cache is the list of the request; a renewal is the list of its name and the partition's number
 abbrev pub event_data : Event → Data
 event_data (Call request) = request_data request
+event_data (Renew partition) = named_list (codes "renew") (item (number (unsigned partition)) no_items)
 
 abbrev pub events_data : List Event → Items
 events_data [] = no_items
@@ -68,8 +69,13 @@ RequestKeepsLimits (Truncate cache) = IsName cache
 RequestKeepsLimits (Destroy cache) = IsName cache
 RequestKeepsLimits (PutAll cache pairs) = IsName cache × ArePairs pairs
 
+-- a number that a partition may have, whether or not a cluster has that partition
+abbrev pub IsPartitionNumber : ℕ → Type 0
+IsPartitionNumber partition = partition < 65536
+
 abbrev pub EventKeepsLimits : Event → Type 0
 EventKeepsLimits (Call request) = RequestKeepsLimits request
+EventKeepsLimits (Renew partition) = IsPartitionNumber partition
 
 abbrev pub KeepsLimits : Command → Type 0
 KeepsLimits (Create host) = IsName host

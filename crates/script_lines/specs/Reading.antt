@@ -4,14 +4,15 @@ use Rattle.std.specs.Ordering.{nat_cmp}
 use Rattle.std.specs.Cmp.Lexicographic.{slice_cmp}
 use Rattle.std.specs.declared.cmp.Ordering.TheVariants.{Less}
 use Rattle.std.specs.List.{AllByRecursion}
-use Rattle.serde_json.specs.Data.{Data, null, boolean, number, string, array, object, Items, no_items, item, Members, no_members, member}
+use Rattle.serde_json.specs.Data.{Data, null, boolean, unsigned, number, string, array, object, Items, no_items, item, Members, no_members, member}
 use Rattle.serde_json.specs.Events.{members_len}
 use Rattle.cache_key.specs.Names.{IsName, IsKey, IsPair}
 use Rattle.cache_key.specs.declared.request.Request.{Request}
 use Rattle.cache_key.specs.declared.request.Request.TheVariants as requests
-use Rattle.script_lines.specs.Form.{pair_data, pair_items, request_data, event_data, events_data, command_data, ArePairs, RequestKeepsLimits, EventKeepsLimits, KeepsLimits}
+use Rattle.script_lines.specs.Form.{pair_data, pair_items, event_data, events_data, command_data, ArePairs, IsPartitionNumber, EventKeepsLimits, KeepsLimits}
 use Rattle.script_lines.specs.declared.command.Command.{Command}
 use Rattle.script_lines.specs.declared.command.Event.{Event}
+use Rattle.script_lines.specs.declared.command.Event.TheVariants.{Call, Renew}
 use Rattle.script_lines.specs.declared.fault.LineFault.{LineFault}
 use Rattle.script_lines.specs.declared.fault.LineFault.TheVariants.{Form, NoMemory}
 use Rattle.script_lines.specs.declared.reason.EventName.{EventName}
@@ -43,9 +44,15 @@ pub record IsOnlyHostOf (d : Data) (host : List ℕ) : Type 0 where
   pub is : d ≡ list_of_one (string host)
   pub limits : IsName host
 
-pub record IsRequestOf (d : Data) (request : Request) : Type 0 where
-  pub is : d ≡ request_data request
-  pub limits : RequestKeepsLimits request
+-- the number of a partition stands there
+pub record IsPartitionOf (d : Data) (partition : ℕ) : Type 0 where
+  pub is : d ≡ number (unsigned partition)
+  pub limits : IsPartitionNumber partition
+
+-- the list of the event stands there
+pub record IsEventOf (d : Data) (event : Event) : Type 0 where
+  pub is : d ≡ event_data event
+  pub limits : EventKeepsLimits event
 
 -- the name of an event, as it stands in a line
 abbrev pub event_word : EventName → List ℕ
@@ -57,6 +64,7 @@ event_word names.Ensure = codes "ensure"
 event_word names.Truncate = codes "truncate"
 event_word names.Destroy = codes "destroy"
 event_word names.PutAll = codes "putAll"
+event_word names.Renew = codes "renew"
 
 -- the name of a request, and the items after it
 abbrev pub request_name : Request → EventName
@@ -79,11 +87,20 @@ request_items (requests.Truncate cache) = item (string cache) no_items
 request_items (requests.Destroy cache) = item (string cache) no_items
 request_items (requests.PutAll cache pairs) = item (string cache) (item (array (pair_items pairs)) no_items)
 
--- the request has this name and these items after it
-pub record IsAsked (name : EventName) (ds : Items) (request : Request) : Type 0 where
-  pub name_is : request_name request ≡ name
-  pub items : ds ≡ request_items request
-  pub limits : RequestKeepsLimits request
+-- the same of an event
+abbrev pub event_name : Event → EventName
+event_name (Call request) = request_name request
+event_name (Renew partition) = names.Renew
+
+abbrev pub event_items : Event → Items
+event_items (Call request) = request_items request
+event_items (Renew partition) = item (number (unsigned partition)) no_items
+
+-- the event has this name and these items after it
+pub record IsAsked (name : EventName) (ds : Items) (event : Event) : Type 0 where
+  pub name_is : event_name event ≡ name
+  pub items : ds ≡ event_items event
+  pub limits : EventKeepsLimits event
 
 -- these items are the name of a cache alone
 pub record IsOneCache (ds : Items) (cache : List ℕ) : Type 0 where
@@ -104,10 +121,6 @@ pub record IsPairOf (d : Data) (pair : List ℕ × List ℕ) : Type 0 where
 pub record ArePairsOf (d : Data) (pairs : List (List ℕ × List ℕ)) : Type 0 where
   pub are : d ≡ array (pair_items pairs)
   pub limits : ArePairs pairs
-
-pub record IsEventOf (d : Data) (event : Event) : Type 0 where
-  pub is : d ≡ event_data event
-  pub limits : EventKeepsLimits event
 
 pub record AreEventsIn (ds : Items) (events : List Event) : Type 0 where
   pub are : ds ≡ events_data events

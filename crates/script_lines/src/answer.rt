@@ -42,6 +42,8 @@ pub enum Outcome {
     Replied { reply: Reply },
     /// The event was not carried out.
     Refused { refusal: Refusal },
+    /// The store of the partition was built anew, with this identifier.
+    Renewed { partition: u16, id: StoreId },
 }
 
 /// Why a command or an event was not carried out.
@@ -69,6 +71,19 @@ pub enum Refusal {
         file: u8,
         at: u64,
     },
+    /// The cluster has no partition of this number.
+    NoPartition {
+        partition: u16,
+    },
+    /// The change could lengthen a store of the partition's contents past the limit. A store of what it has now is
+    /// `live` bytes long.
+    StoreFull {
+        live: u64,
+    },
+    /// The history of the partition's calls has no room for one more.
+    TrailFull,
+    /// The store has to be built anew, and no greater version is left.
+    VersionEnd,
 }
 
 /// The contents of one partition.

@@ -25,6 +25,8 @@ pub enum Command {
 pub enum Event {
     /// Asks a cache.
     Call { request: Request },
+    /// Builds the store of a partition anew. The cluster may have no partition of this number.
+    Renew { partition: u16 },
 }
 
 /// The events of a command, in their order.

@@ -13,6 +13,7 @@ mod command;
 mod events;
 mod explain;
 mod fault;
+mod numbers;
 mod pairs;
 mod read;
 mod reason;

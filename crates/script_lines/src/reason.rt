@@ -58,6 +58,10 @@ pub enum LineReason {
     NotList {
         part: Part,
     },
+    /// This part is not a whole number from 0 to 65535.
+    NotNumber {
+        part: Part,
+    },
     /// This text is no name, key or value.
     BadText {
         part: Part,
@@ -118,6 +122,8 @@ pub enum Part {
     Key { event: usize },
     /// The value of an event.
     Value { event: usize },
+    /// The partition of an event.
+    Partition { event: usize },
     /// The list of pairs of an event.
     Pairs { event: usize },
     /// A pair of an event.
@@ -149,6 +155,7 @@ pub enum EventName {
     Truncate,
     Destroy,
     PutAll,
+    Renew,
 }
 
 impl CommandName {
@@ -183,6 +190,7 @@ impl EventName {
             "truncate" => Some(EventName::Truncate),
             "destroy" => Some(EventName::Destroy),
             "putAll" => Some(EventName::PutAll),
+            "renew" => Some(EventName::Renew),
             _ => None,
         }
     }
@@ -219,6 +227,9 @@ impl fmt::Display for LineReason {
             ),
             LineReason::NotText { part } => write!(f, "{part} is not a text"),
             LineReason::NotList { part } => write!(f, "{part} is not a list"),
+            LineReason::NotNumber { part } => {
+                write!(f, "{part} is not a whole number from 0 to {}", u16::MAX)
+            }
             LineReason::BadText { part, reason } => write!(f, "{part} {reason}"),
             LineReason::HostCount { count } => {
                 write!(f, "the member \"hosts\" needs 1 item, and has {count}")
@@ -226,7 +237,7 @@ impl fmt::Display for LineReason {
             LineReason::EmptyEvent { event } => write!(f, "event {event} is empty"),
             LineReason::UnknownEvent { event, found } => write!(
                 f,
-                "event {event} has the unknown name {found}; the events are get, put, remove, size, ensure, truncate, destroy, putAll"
+                "event {event} has the unknown name {found}; the events are get, put, remove, size, ensure, truncate, destroy, putAll, renew"
             ),
             LineReason::ItemCount { event, name, count } => {
                 write!(f, "event {event} needs {name}, and has {count}")
@@ -258,6 +269,7 @@ impl fmt::Display for Part {
             Part::Cache { event } => write!(f, "the cache of event {event}"),
             Part::Key { event } => write!(f, "the key of event {event}"),
             Part::Value { event } => write!(f, "the value of event {event}"),
+            Part::Partition { event } => write!(f, "the partition of event {event}"),
             Part::Pairs { event } => write!(f, "the third item of event {event}"),
             Part::Pair { event, pair } => write!(f, "pair {pair} of event {event}"),
             Part::PairKey { event, pair } => write!(f, "the key of pair {pair} of event {event}"),
@@ -299,6 +311,7 @@ impl fmt::Display for EventName {
                     "2 items after \"putAll\", the cache and the list of pairs"
                 )
             }
+            EventName::Renew => write!(f, "1 item after \"renew\", the partition"),
         }
     }
 }

@@ -5,7 +5,7 @@ use Rattle.serde_json.specs.View.{view, items_view}
 use Rattle.cache_key.specs.Names.{IsName, IsKey}
 use Rattle.script_lines.specs.Reading.{AreCacheAndKey, IsTextOf}
 use Rattle.script_lines.proofs.ReadingLemmas.{refused, Reads-handed_on}
-use Rattle.script_lines.proofs.RequestLemmas.{cache_and_key_parts}
+use Rattle.script_lines.proofs.AskedLemmas.{cache_and_key_parts}
 use Rattle.script_lines.proofs.ShapeLemmas.{items_counted, two_items}
 use Rattle.script_lines.proofs.requests.cache_and_key.Goals as goal
 use Rattle.script_lines.proofs.requests.cache_and_key.Goals.{in_default-via-then-others-lt2, in_default-via-else-others-lt2+else-others-lt3}

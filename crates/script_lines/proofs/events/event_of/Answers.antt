@@ -5,10 +5,10 @@ use Rattle.serde_json.specs.View.{view, items_view}
 use Rattle.serde_json.proofs.Views.{view-Array}
 use Rattle.serde_json.specs.declared.value.Value.{Value}
 use Rattle.script_lines.specs.Form.{named_list}
-use Rattle.script_lines.specs.Reading.{IsRequestOf, IsAsked, event_word, request_name}
+use Rattle.script_lines.specs.Reading.{IsEventOf, IsAsked, event_word, event_name}
 use Rattle.script_lines.proofs.ReadingLemmas.{Reads-same, as_str-string}
-use Rattle.script_lines.proofs.RequestLemmas.{IsRequestOf-asked, IsAsked-request, word_of_request}
-use Rattle.script_lines.proofs.requests.request_of.Goals as goal
+use Rattle.script_lines.proofs.AskedLemmas.{IsEventOf-asked, IsAsked-event, word_of_event}
+use Rattle.script_lines.proofs.events.event_of.Goals as goal
 
 pub returns-in_default-of : goal.returns-in_default-of
 returns-in_default-of c =
@@ -16,7 +16,7 @@ returns-in_default-of c =
     let others : List Value = c.in-Some.others.now in
     let shape : view c.args.value ≡ named_list c.in-Some-as_str.word.now (items_view others) =
     ap view c.in-Array.is ∙ view-Array c.in-Array.items ∙ ap (λ vs. array (items_view vs)) (sym c.deref_mut.ensures.value ∙ c.in-Some.ensures.cases.0) ∙ ap (λ d. array (item d (items_view others))) word in
-    λ request is. c.in_default-of.ensures (request_name request) (word_of_request (view c.args.value) c.in-Some-as_str.word.now (items_view others) shape request is)
+    λ event is. c.in_default-of.ensures (event_name event) (word_of_event (view c.args.value) c.in-Some-as_str.word.now (items_view others) shape event is)
 
 pub returns : goal.returns
 returns c =
@@ -25,5 +25,5 @@ returns c =
     let shape : view c.args.value ≡ named_list c.in-Some-as_str.word.now (items_view others) =
     ap view c.in-Array.is ∙ view-Array c.in-Array.items ∙ ap (λ vs. array (items_view vs)) (sym c.deref_mut.ensures.value ∙ c.in-Some.ensures.cases.0) ∙ ap (λ d. array (item d (items_view others))) word in
     let named : view c.args.value ≡ named_list (event_word c.in-Some-of.name) (items_view others) = shape ∙ ap (λ name. named_list name (items_view others)) c.in-Some-of.ensures in
-    Reads-same (IsAsked c.in-Some-of.name (items_view others)) (IsRequestOf (view c.args.value)) c.asked.result
-    (IsRequestOf-asked (view c.args.value) c.in-Some-of.name (items_view others) named) (IsAsked-request (view c.args.value) c.in-Some-of.name (items_view others) named) c.asked.ensures
+    Reads-same (IsAsked c.in-Some-of.name (items_view others)) (IsEventOf (view c.args.value)) c.asked.result
+    (IsEventOf-asked (view c.args.value) c.in-Some-of.name (items_view others) named) (IsAsked-event (view c.args.value) c.in-Some-of.name (items_view others) named) c.asked.ensures

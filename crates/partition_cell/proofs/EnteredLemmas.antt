@@ -39,10 +39,11 @@ grown_more a b c epoch added grown longer = ⊎_elim
     (λ is. inl (
       is.0,
       record {
+        owner = longer.owner ∙ is.1.owner;
         id = longer.id ∙ is.1.id;
         file = longer.file ∙ is.1.file;
         end = omega (arith, longer.end, is.1.end);
-        told = longer.told ∙ is.1.told;
+        board = longer.board ∙ is.1.board;
       },
     ))
     (λ is. inr (
@@ -51,18 +52,19 @@ grown_more a b c epoch added grown longer = ⊎_elim
         id = longer.id ∙ is.1.id;
         other = omega (arith, longer.file, is.1.other);
         end = omega (arith, longer.end, is.1.end);
-        told = longer.told ∙ is.1.told;
+        told = ap told_by longer.board ∙ is.1.told;
       },
     ))
     grown
 
 -- a fit cell is left as it is
 pub grown_none : {D : Type 0} (cell : Cell D) (epoch : ℕ) → IsFit cell → HasGrown cell cell epoch 0
-grown_none cell epoch fit = inl (fit, record { id = refl; file = refl; end = omega arith; told = refl })
+grown_none cell epoch fit = inl (fit, record { owner = refl; id = refl; file = refl; end = omega arith; board = refl })
 
 -- a commit changes no more of the store than its end
-pub longer : {D : Type 0} (a b : Cell D) (added : ℕ) → told_by b.board ≡ told_by a.board → b.store.id ≡ a.store.id → b.store.file ≡ a.store.file → b.store.end ≡ a.store.end + added → IsLonger a b added
-longer a b added told id file end = record { id = id; file = file; end = end; told = told }
+pub longer : {D : Type 0} (a b : Cell D) (added : ℕ) → b ≡ record a { disks = b.disks; store = b.store; maps = b.maps; flight = b.flight } → b.store.id ≡ a.store.id → b.store.file ≡ a.store.file
+    → b.store.end ≡ a.store.end + added → IsLonger a b added
+longer a b added kept id file end = record { owner = ap (λ (x : Cell _). x.owner) kept; id = id; file = file; end = end; board = ap (λ (x : Cell _). x.board) kept }
 
 -- a fact that holds holds at a refusal
 pub where_refused : {T E : Type 0} (result : Result T E) (P : Type 0) → P → OnErr result P

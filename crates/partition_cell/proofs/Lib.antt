@@ -12,3 +12,4 @@ pub mod RefusalLemmas
 pub mod OlderLemmas
 pub mod ThroughoutLemmas
 pub mod LoadLemmas
+pub mod StandingLemmas

@@ -106,6 +106,11 @@ module _ (kind : SlotKind) (free : is_free kind ≡ true) (none one board : Boar
     told = by_slot (λ h f s. MayCount s.kind → s.version ≤ told_by board) (λ may. omega (arith, first.told, second.told)) (λ may. absurd (free_counts kind free may)) (λ h f ne may. absurd may);
   }
 
+  -- beside it no file is sealed
+  pub made_lone : (h f : ℕ) → ((j : ℕ) → j ≤ 1 → (slot_at board h j).kind ≢ Unknown) → f ≤ 1 → ((h ≡ host) × (f ≡ 0) → ⊥) → is_free (slot_at board h f).kind ≡ true
+  made_lone h f known le other = by_slot (λ k j s. ((k ≡ host) × (j ≡ 0) → ⊥) → s.kind ≢ Unknown → is_free s.kind ≡ true)
+      (λ other known. absurd (other (refl, refl))) (λ other known. free) (λ k j ne other known. absurd (known refl)) h f le other (known f le)
+
   pub made_by_host : ByHost board
   made_by_host h f j le le' is = ⊎_elim
       (λ e. absurd (subst (λ (k : ℕ). (slot_at board k f).kind ≡ Unknown → ⊥) (sym e)

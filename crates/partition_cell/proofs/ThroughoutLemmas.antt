@@ -82,7 +82,7 @@ alike_files os ms (k ∷ list) same =
 -- ---- one image and the next
 
 -- the version stands after the first byte
-version_unsealed : (old new : List ℕ) → ButFirst old new → version_in new ≡ version_in old
+pub version_unsealed : (old new : List ℕ) → ButFirst old new → version_in new ≡ version_in old
 version_unsealed old new but = ap (λ (l : List ℕ). big_endian (take 8 l)) (sym (drop-drop 8 1 new) ∙ ap (λ (l : List ℕ). drop 8 l) but.rest ∙ drop-drop 8 1 old)
 
 -- a file that was older is so still

@@ -23,12 +23,13 @@ pub record IsAnew {D : Type 0} (old new : Cell D) (epoch added : ℕ) : Type 0 w
   pub end : new.store.end + 1 ≡ live (caches_of old) + added
   pub told : told_by new.board ≡ told_by old.board + 1
 
--- the store is the old one, longer by so many bytes
+-- the store is the old one, longer by so many bytes, and what is known of the files is what was
 pub record IsLonger {D : Type 0} (old new : Cell D) (added : ℕ) : Type 0 where
+  pub owner : new.owner ≡ old.owner
   pub id : new.store.id ≡ old.store.id
   pub file : new.store.file ≡ old.store.file
   pub end : new.store.end ≡ old.store.end + added
-  pub told : told_by new.board ≡ told_by old.board
+  pub board : new.board ≡ old.board
 
 -- The store is the one that a commit goes to, longer by so many bytes: the old one where the cell was fit, and only there; else
 -- one that was built anew.

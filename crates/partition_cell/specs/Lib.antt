@@ -6,3 +6,4 @@ pub mod Loaded
 pub mod Made
 pub mod Older
 pub mod Refusals
+pub mod Standing

@@ -43,9 +43,12 @@ impl<D: Disk> Cell<D> {
     ghost use Rattle.file_kinds.specs.Kinds.{IsVersion};
     ghost use Rattle.file_kinds.specs.Order.{IsRecorded, SurvivesIn};
     ghost use Rattle.partition_cell.specs.Cells.{list_of, flight_of, IsSoundCell};
+    ghost use Rattle.partition_cell.specs.Standing.{IsCurrentIn, IsLone};
     ghost use Rattle.partition_cell.specs.declared.moving.Moving.{Moving};
     ghost use Rattle.seal_gate.specs.Seal.{IsSealed};
     ghost use Rattle.slot_board.specs.Slots.{slot_at, told_by};
+    ghost use Rattle.store_journal.specs.Created.{IsUnsealed};
+    ghost use Rattle.store_journal.specs.Stands.{version_in};
 
     /// The host whose disk has the current store.
     pub fn owner(&self) -> u16
@@ -118,10 +121,16 @@ impl<D: Disk> Cell<D> {
     /// The law of a cell: in whatever a stop may leave now, the files of the recorded hosts stand for what is durable, or for
     /// it and all that is in flight. Does nothing.
     ///
-    /// And each file that is sealed there is a whole store of the partition, of the version that was told of it.
+    /// And each file that is sealed there is a whole store of the partition, of the version that was told of it. The owner is
+    /// recorded. Where the cell is sound, the current store has the greatest version of them; where it is lone, no other file is
+    /// sealed.
     pub fn survives(&self)
         ensures whole { (ms : LaneImage) → IsLaneImage D.view self.now.disks ms → (h f : ℕ) → IsRecorded self.now.board h → f ≤ 1 → IsSealed (ms h f) → IsVersion self.now.number (slot_at self.now.board h f).version (ms h f) }
         ensures there { self.now.owner < length self.now.disks }
+        ensures recorded { IsRecorded self.now.board self.now.owner }
+        ensures told { (ms : LaneImage) → IsLaneImage D.view self.now.disks ms → (h f : ℕ) → IsRecorded self.now.board h → f ≤ 1 → IsSealed (ms h f) → version_in (ms h f) ≤ told_by self.now.board }
+        ensures current { IsSoundCell self.now → (ms : LaneImage) → IsLaneImage D.view self.now.disks ms → IsCurrentIn self.now ms }
+        ensures lone { IsLone self.now → (ms : LaneImage) → IsLaneImage D.view self.now.disks ms → (h f : ℕ) → IsRecorded self.now.board h → f ≤ 1 → ((h ≡ self.now.owner) × (f ≡ self.now.store.file) → ⊥) → IsUnsealed (ms h f) }
         ensures survives { (ms : LaneImage) → IsLaneImage D.view self.now.disks ms → SurvivesIn self.now.board self.now.owner self.now.number (list_of self.now) (flight_of self.now) ms }
     {
         let _ = &self.owner;

@@ -11,7 +11,7 @@
 //!   stand for what they stood for (`StandsThroughout`, specs/Loaded.antt).
 //! Hides: which of a host's two files has the store, and how a store is built.
 //! Not here: what was asked and replied (call_trail), and which of several stores is the newest (newest_store).
-//! Laws: `survives`, and EnteredLemmas and BeyondLemmas for proofs.
+//! Laws: `survives`, and EnteredLemmas, BeyondLemmas, ListLemmas and ThroughoutLemmas for proofs.
 //! Cost: a commit is four device calls and takes time for its record; `due` and `is_sound` look at each host's two files; a
 //!   renewal takes time for the contents, and memory for 64 of their items; `load_newest` reads each header once, and the newest
 //!   store once whole.

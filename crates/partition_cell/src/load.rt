@@ -53,13 +53,8 @@ impl<D: Disk> Cell<D> {
         ensures kept { IfErr result (λ refused. KeepsNewest D.view hosts.now (record { partition = partition; partitions = partitions }) disks.items refused.1.items) }
         ensures stands { IfErr result (λ refused. StandsThroughout D.view hosts.now (record { partition = partition; partitions = partitions }) disks.items refused.1.items) }
     {
-        let (host, loaded) = match find_newest(
-            alloc,
-            disks.as_mut_slice(),
-            partition,
-            partitions,
-            hosts,
-        ) {
+        let found = find_newest(alloc, disks.as_mut_slice(), partition, partitions, hosts);
+        let (host, Loaded { store, contents }) = match found {
             Ok(found) => found,
             Err(refusal) => return Err((refusal, disks)),
         };
@@ -67,7 +62,6 @@ impl<D: Disk> Cell<D> {
             Ok(board) => board,
             Err(_) => return Err((CellRefusal::NoMemory, disks)),
         };
-        let Loaded { store, contents } = loaded;
         let newest = Newest {
             host,
             file: store.file,

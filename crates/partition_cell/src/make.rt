@@ -5,6 +5,7 @@ ghost use Rattle.disk_trait.specs.Calls.{Moved, Cause};
 ghost use Rattle.disk_trait.specs.Moments.{After, Throughout};
 ghost use Rattle.file_kinds.specs.Freeing.{IsFreeable};
 ghost use Rattle.partition_cell.specs.Made.{IsFirst, IsMaking, MakingOn, IsMakingFault, first_header};
+ghost use Rattle.partition_cell.specs.Standing.{IsLone};
 ghost use Rattle.record_form.specs.HeaderText.{IsHeader};
 ghost use Rattle.seal_gate.specs.Seal.{IsSettled, Each};
 ghost use Rattle.slot_board.specs.Slots.{is_free};
@@ -43,6 +44,7 @@ impl<D: Disk> Cell<D> {
         requires settled { (disk : D) → slice_get disks.items host ≡ Some disk → (f : ℕ) → f ≤ 1 → IsSettled (D.view disk) f }
 
         ensures made { IfOk result (λ cell. IsFirst cell host partition partitions) }
+        ensures lone { IfOk result IsLone }
         ensures event { IfOk result (λ cell. LaneEvent D.view host disks.items cell.disks (MakingOn D.view host disks.items (first_header partition partitions host))) }
         ensures refused { IfErr result (λ refused. LaneEvent D.view host disks.items refused.1.items (MakingOn D.view host disks.items (first_header partition partitions host))) }
         ensures fault { IfErr result (λ refused. IsMakingFault D.view host disks.items refused.1.items refused.0) }

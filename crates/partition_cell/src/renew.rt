@@ -45,6 +45,7 @@ impl<D: Disk> Cell<D> {
 
         ensures busy { (to : ℕ) → IsErrOf result (Busy to) ↔ ((moving : Moving) × (self.old.moving ≡ Some moving) × (moving.host ≡ to)) }
         ensures version_end { IsErrOf result VersionEnd ↔ ((self.old.moving ≡ None) × (told_by self.old.board + 1 ≡ 2 ^ 58)) }
+        ensures untouched { (IsErrOf result VersionEnd ⊎ ((to : ℕ) × IsErrOf result (Busy to))) → self.new ≡ self.old }
         ensures fault { (host : ℕ) → IsErrOf result (Fault host) → (host ≡ self.old.owner) × HasFailedOn D.view host self.old.disks self.new.disks }
     {
         if let Some(to) = self.target() {

@@ -1,9 +1,9 @@
-use Rattle.std.proofs.Common.{◌≡◌, Err, length, ◌<◌, arith, refl, ap, ◌∙◌}
+use Rattle.std.proofs.Common.{◌≡◌, Err, length, ◌<◌, arith, refl, sym, ap, ◌∙◌}
 use Rattle.std.proofs.lemmas.Option.{slice_get_read}
 use Rattle.disk_lane.proofs.LaneLemmas.{failed_on}
 use Rattle.slot_board.specs.Slots.{hosts_of}
 use Rattle.partition_cell.specs.Made.{first_header}
-use Rattle.partition_cell.proofs.MakeLemmas.{made_kept, made_event}
+use Rattle.partition_cell.proofs.MakeLemmas.{made_kept, made_event, made_lone}
 use Rattle.partition_cell.proofs.RefusalLemmas.{making_fault}
 use Rattle.partition_cell.proofs.StepLemmas.{call_onward}
 use Rattle.partition_cell.proofs.cell.Cell.create.Goals as goal
@@ -37,3 +37,14 @@ returns-in-Err-make_store-clause-fault g c =
     rw c.refused_cell.ensures
     (making_fault g.D.Disk.view c.args.host c.args.disks.items _ c.in-Err-make_store.refusal
     (λ failed. failed_on g.D.Disk.view c.args.disks.items c.args.host _ c.make_store.new.disk was (c.make_store.ensures.cause.failed (c.in-Err-make_store.is ∙ ap Err failed))))
+
+pub returns-in-Ok-make_store-clause-lone : goal.returns-in-Ok-make_store-clause-lone
+returns-in-Ok-make_store-clause-lone g c =
+    let many : length c.args.disks.items ≡ hosts_of c.in-Ok.board = omega (arith, c.in-Ok.ensures.hosts, c.len.ensures, c.args.disks.ok) in
+    let there : c.args.host < hosts_of c.in-Ok.board = omega (arith, many, c.requires.host) in
+    let done = c.in-Ok-make_store.ensures in
+    record {
+      free = λ h f recorded le other.
+          made_lone c.in-Ok-make_store.kind done.spare.0 c.in-Ok.board c.set.new.self c.set-in-Ok-make_store.new.self c.args.host c.in-Ok.ensures.unknown c.in-Ok.ensures.told there c.set.ensures c.set-in-Ok-make_store.ensures
+          h f recorded.known le (λ same. other (same.0, same.1 ∙ sym done.store.1));
+    }

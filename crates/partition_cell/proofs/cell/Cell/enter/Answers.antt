@@ -3,7 +3,6 @@ use Rattle.std.proofs.lemmas.Result.{on_ok_weaker, on_err_weaker}
 use Rattle.cache_model.specs.Change.{change_of}
 use Rattle.disk_lane.specs.Lanes.{LaneImage}
 use Rattle.disk_lane.proofs.LaneLemmas.{disk_there, failure_later}
-use Rattle.slot_board.specs.Slots.{told_by}
 use Rattle.store_journal.specs.declared.store.Store.{Store}
 use Rattle.partition_cell.proofs.EnteredLemmas.{grown_more, longer}
 use Rattle.partition_cell.specs.Cells.{Cell, Surviving, SurvivingBefore}
@@ -39,16 +38,16 @@ returns-clause-others g c =
 pub returns-clause-grown : goal.returns-clause-grown
 returns-clause-grown g c =
     let added = length c.args.prepared.tail in
-    let told = ap (λ (x : Cell g.row.D.Denot). told_by x.board) c.commit.ensures.kept in
+    let kept = c.commit.ensures.kept in
     let store = c.commit.ensures.store in
     on_ok_weaker c.commit.result
     (λ durable. grown_more c.args.self.now c.make_fit.new.self c.commit.new.self c.args.epoch added c.in_ok-make_fit.ensures.grown
-    (longer c.make_fit.new.self c.commit.new.self added told store.0 store.1 durable.1))
+    (longer c.make_fit.new.self c.commit.new.self added kept store.0 store.1 durable.1))
     c.commit.ensures.durable
 
 pub returns-clause-refused : goal.returns-clause-refused
 returns-clause-refused g c =
-    let told = ap (λ (x : Cell g.row.D.Denot). told_by x.board) c.commit.ensures.kept in
+    let kept = c.commit.ensures.kept in
     let store = c.commit.ensures.store in
     on_err_weaker c.commit.result
     (λ refused.
@@ -56,7 +55,7 @@ returns-clause-refused g c =
       refused.0 ∙ c.make_fit.ensures.kept.0,
       inr (
         grown_more c.args.self.now c.make_fit.new.self c.commit.new.self c.args.epoch 0 c.in_ok-make_fit.ensures.grown
-            (longer c.make_fit.new.self c.commit.new.self 0 told store.0 store.1 (omega (arith, end))),
+            (longer c.make_fit.new.self c.commit.new.self 0 kept store.0 store.1 (omega (arith, end))),
         refused.2,
       ),
     ))

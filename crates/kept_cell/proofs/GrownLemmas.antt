@@ -37,10 +37,11 @@ module _ {D : Type 0} (a b : Cell D) (kept : b ≡ record a { maps = b.maps }) (
       (λ is. inl (
         fit_before is.0,
         record {
+          owner = is.1.owner ∙ ap (λ (c : Cell D). c.owner) kept;
           id = is.1.id ∙ ap (λ (c : Cell D). c.store.id) kept;
           file = is.1.file ∙ ap (λ (c : Cell D). c.store.file) kept;
           end = let end = ap (λ (c : Cell D). c.store.end) kept in omega (arith, is.1.end, end);
-          told = is.1.told ∙ told_before;
+          board = is.1.board ∙ ap (λ (c : Cell D). c.board) kept;
         },
       ))
       (λ is. inr (

@@ -20,7 +20,7 @@ use std::alloc::{AllocError, Global};
 impl<D: Disk> Kept<D> {
     ghost use Rattle.call_trail.specs.declared.refusal.CallRefusal.TheVariants.{Fault, NoMemory};
     ghost use Rattle.disk_lane.specs.Lanes.{LaneImage, LaneEvent, HasFailedOn};
-    ghost use Rattle.kept_cell.specs.KeptCells.{entry_of, receipt_after, IsAskable, ReadCauses, ChangeCauses, IsHeldBack, IsHeldEarly};
+    ghost use Rattle.kept_cell.specs.KeptCells.{entry_of, receipt_after, IsAskable, ReadCauses, ChangeCauses, IsReadied, IsHeldBack, IsHeldEarly};
     ghost use Rattle.partition_cell.specs.Beyond.{OthersStay};
     ghost use Rattle.partition_cell.specs.Cells.{caches_of, Surviving, SurvivingBefore, IsSoundCell};
     ghost use Rattle.partition_cell.specs.Entered.{record_length, HasGrown, IsNotRenewed, IsNotEntered};
@@ -48,6 +48,7 @@ impl<D: Disk> Kept<D> {
         ensures receipt { IfOk result (λ receipt. receipt ≡ receipt_after self.old client number request) }
         ensures entered { IfOk result (λ receipt. self.new.trail.entries ≡ self.old.trail.entries ++ entry_of receipt ∷ []) }
         ensures base { self.new.trail.base ≡ self.old.trail.base }
+        ensures place { (self.new.cell.owner ≡ self.old.cell.owner) × (self.new.cell.number ≡ self.old.cell.number) × (self.new.cell.moving ≡ self.old.cell.moving) }
         ensures refused { OnErr result ((self.new.trail.entries ≡ self.old.trail.entries) × (caches_of self.new.cell ≡ caches_of self.old.cell)) }
 
         // A read calls no disk and leaves the cell.
@@ -62,6 +63,8 @@ impl<D: Disk> Kept<D> {
         // Which store the cell has then: a fit cell's is the old one, and any other's was built anew.
         ensures grown { (mutation : Mutation) → mutation_of request ≡ Some mutation → OnOk result (HasGrown self.old.cell self.new.cell epoch (record_length mutation)) }
         ensures left { (mutation : Mutation) → mutation_of request ≡ Some mutation → OnErr result (IsHeldBack self.old.cell self.new.cell epoch mutation) }
+        ensures failed { (mutation : Mutation) (host : ℕ) → mutation_of request ≡ Some mutation → IsErrOf result (Fault host) → IsNotEntered self.old.cell self.new.cell epoch mutation }
+        ensures early { OnErr result (IsReadied self.old.cell self.new.cell ⊎ IsErrOf result NoMemory ⊎ IsErrOf result (Fault self.old.cell.owner)) }
 
         ensures causes { (mutation : Mutation) → mutation_of request ≡ Some mutation → ChangeCauses self.old mutation result }
         ensures fault { (host : ℕ) → IsErrOf result (Fault host) → HasFailedOn D.view host self.old.cell.disks self.new.cell.disks }
@@ -121,10 +124,13 @@ impl<D: Disk> Kept<D> {
         ensures receipt { IfOk result (λ receipt. receipt ≡ receipt_after self.old client number (request_asking mutation)) }
         ensures entered { IfOk result (λ receipt. self.new.trail.entries ≡ self.old.trail.entries ++ entry_of receipt ∷ []) }
         ensures base { self.new.trail.base ≡ self.old.trail.base }
+        ensures place { (self.new.cell.owner ≡ self.old.cell.owner) × (self.new.cell.number ≡ self.old.cell.number) × (self.new.cell.moving ≡ self.old.cell.moving) }
         ensures refused { OnErr result ((self.new.trail.entries ≡ self.old.trail.entries) × (caches_of self.new.cell ≡ caches_of self.old.cell)) }
         ensures event { LaneEvent D.view self.old.cell.owner self.old.cell.disks self.new.cell.disks (λ ms. Surviving self.old.cell ms ⊎ SurvivingBefore self.old.cell (change_of mutation) ms) }
         ensures grown { OnOk result (HasGrown self.old.cell self.new.cell epoch (record_length mutation)) }
         ensures left { OnErr result (IsHeldBack self.old.cell self.new.cell epoch mutation) }
+        ensures failed { (host : ℕ) → IsErrOf result (Fault host) → IsNotEntered self.old.cell self.new.cell epoch mutation }
+        ensures early { OnErr result (IsReadied self.old.cell self.new.cell ⊎ IsErrOf result NoMemory ⊎ IsErrOf result (Fault self.old.cell.owner)) }
         ensures others { OthersStay D.view self.old.cell.owner self.old.cell.disks self.new.cell.disks }
         ensures no_memory { IsErrOf result NoMemory → (disk : D) → slice_get self.old.cell.disks self.old.cell.owner ≡ Some disk → (D.view disk).spares → IsHeldEarly self.old.cell self.new.cell }
         ensures durable { OnOk result (IsSoundCell self.new.cell) }
@@ -166,6 +172,7 @@ impl<D: Disk> Kept<D> {
         requires right { entry.reply ≡ reply_after (trail_changes self.old.trail.base self.old.trail.entries) entry.request }
         ensures entered { OnOk result (self.new.trail.entries ≡ self.old.trail.entries ++ entry ∷ []) }
         ensures base { self.new.trail.base ≡ self.old.trail.base }
+        ensures place { (self.new.cell.owner ≡ self.old.cell.owner) × (self.new.cell.number ≡ self.old.cell.number) × (self.new.cell.moving ≡ self.old.cell.moving) }
         ensures refused { OnErr result ((self.new.trail.entries ≡ self.old.trail.entries) × (self.new.cell.maps ≡ self.old.cell.maps)) }
         ensures event { LaneEvent D.view self.old.cell.owner self.old.cell.disks self.new.cell.disks (λ ms. Surviving self.old.cell ms ⊎ SurvivingBefore self.old.cell (change_of prepared.mutation) ms) }
         ensures grown { OnOk result (HasGrown self.old.cell self.new.cell epoch (record_length prepared.mutation)) }

@@ -1,5 +1,5 @@
 //! A cell and its trail.
-ghost use Rattle.std.specs.Prelude.{◌≡◌, [], IfOk, IfErr};
+ghost use Rattle.std.specs.Prelude.{◌≡◌, ◌↔◌, [], Bool, IsTrue, IfOk, IfErr};
 ghost use Rattle.partition_cell.specs.Cells.{caches_of};
 
 use call_trail::{HasTrail, Trail};
@@ -29,6 +29,10 @@ impl<D: Disk> Model for Kept<D> {
 }
 
 impl<D: Disk> Kept<D> {
+    ghost use Rattle.cache_model.specs.Contents.{AreContentsAfter};
+    ghost use Rattle.call_trail.specs.Trails.{trail_changes};
+    ghost use Rattle.partition_cell.specs.Cells.{IsSoundCell};
+
     /// A cell with a trail that begins now. Takes memory for a copy of the contents; an error gives the cell back.
     pub fn begin(alloc: Global, cell: Cell<D>) -> Result<Kept<D>, Cell<D>>
         ensures cell { IfOk result (λ kept. kept.cell ≡ cell) }
@@ -49,6 +53,14 @@ impl<D: Disk> Kept<D> {
         ensures { result.now ≡ self.now.cell }
     {
         &self.cell
+    }
+
+    /// The law of a kept cell: its contents are those after its trail. And it is sound or not. Changes nothing.
+    pub fn follows_its_trail(&self)
+        ensures contents { AreContentsAfter (trail_changes self.now.trail.base self.now.trail.entries) (caches_of self.now.cell) }
+        ensures sound { (sound : Bool) × (IsTrue sound ↔ IsSoundCell self.now.cell) }
+    {
+        let _ = self.cell.is_sound();
     }
 
     /// Gives the cell, without its trail.

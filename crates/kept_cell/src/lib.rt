@@ -5,12 +5,13 @@
 //!   that its receipt names; which store the cell has after a call is exact (`HasGrown` and `IsHeldBack`).
 //! Hides: that a mutation's copies are made before the first device call.
 //! Not here: how a mutation becomes durable, and when a store is built anew (partition_cell).
-//! Laws: none.
+//! Laws: `Kept::follows_its_trail`.
 //! Cost: a call costs what its reply, its record and its entry cost; where a store is due, a renewal more.
 #![tactic(auto)]
 
 mod asked;
 mod call;
 mod kept;
+mod renew;
 
 pub use kept::Kept;

@@ -1,4 +1,4 @@
-use Rattle.std.proofs.Common.{◌≡◌, ◌⊎◌, inl, inr, ⊎_elim, refl, slice_get, length, Err, Some, None, sym, subst, ap, ◌∙◌}
+use Rattle.std.proofs.Common.{◌≡◌, ◌⊎◌, inl, inr, ⊎_elim, refl, slice_get, length, Err, Some, None, IsErrOf, sym, subst, ap, ◌∙◌}
 use Rattle.std.proofs.lemmas.Result.{err_from_is_err_and}
 use Rattle.cache_key.specs.declared.request.Mutation.{Mutation}
 use Rattle.cache_model.specs.Change.{change_of}
@@ -9,7 +9,7 @@ use Rattle.partition_cell.specs.Cells.{Cell, caches_of, Surviving, SurvivingBefo
 use Rattle.partition_cell.specs.Entered.{record_length, HasGrown, IsNotEntered}
 use Rattle.partition_cell.proofs.BeyondLemmas.{others_none}
 use Rattle.partition_cell.proofs.EnteredLemmas.{where_refused}
-use Rattle.kept_cell.specs.KeptCells.{IsHeldBack}
+use Rattle.kept_cell.specs.KeptCells.{IsReadied, IsHeldBack}
 use Rattle.kept_cell.proofs.GrownLemmas.{readied_then, grown_before, not_renewed_before, not_entered_before, others_before}
 use Rattle.kept_cell.proofs.KeptLemmas.{uncalled, readied_event}
 use Rattle.kept_cell.proofs.CauseLemmas.{causes_pinned, causes_prepared, causes_entered}
@@ -142,3 +142,41 @@ returns-clause-grown g c =
     let same = ap (λ (x : Cell g.row.D.Denot). caches_of x) c.spell_change.ensures.cell ∙ c.prepare.ensures.same in
     let grown = subst (λ (m : Mutation). HasGrown c.spell_change.new.self.cell c.finish.new.self.cell c.args.epoch (record_length m)) c.in_ok-prepared.ensures.prepared.0 c.in_ok-finish.ensures.grown in
     rw (← c.self.view_is) (grown_before c.self.inside.cell c.spell_change.new.self.cell kept same c.finish.new.self.cell c.args.epoch (record_length c.args.mutation) grown)
+
+pub returns-in-Some-clause-early : goal.returns-in-Some-clause-early
+returns-in-Some-clause-early g c = rw (← c.self.view_is) (inl refl)
+
+pub returns-then-is_full-clause-early : goal.returns-then-is_full-clause-early
+returns-then-is_full-clause-early g c = rw (← c.self.view_is) (inl refl)
+
+pub returns-in_err-prepared-clause-early : goal.returns-in_err-prepared-clause-early
+returns-in_err-prepared-clause-early g c =
+    rw (← c.self.view_is) (where_refused c.from_residual.result (IsReadied c.self.inside.cell c.prepare.new.self ⊎ IsErrOf c.from_residual.result NoMemory ⊎ IsErrOf c.from_residual.result (Fault c.self.inside.cell.owner)) (inl c.prepare.ensures.kept))
+
+pub returns-in-Err-clause-early : goal.returns-in-Err-clause-early
+returns-in-Err-clause-early g c =
+    rw (← c.self.view_is) (inl (readied_then c.self.inside.cell c.prepare.new.self c.spell_change.new.self.cell c.spell_change.ensures.cell c.prepare.ensures.kept))
+
+pub returns-in_err-finish-clause-early : goal.returns-in_err-finish-clause-early
+returns-in_err-finish-clause-early g c =
+    let r = c.from_residual-in_err-finish.result in
+    let p = err_from_is_err_and r c.from_residual-in_err-finish.ensures.1 in
+    let owner = ap (λ (x : Cell g.row.D.Denot). x.owner) c.spell_change.ensures.cell ∙ ap (λ (x : Cell g.row.D.Denot). x.owner) c.prepare.ensures.kept in
+    let is : IsErrOf r NoMemory ⊎ IsErrOf r (Fault c.self.inside.cell.owner) = ⊎_elim
+    (λ e. let same : c.in_err-finish.field-0.0 ≡ NoMemory = cc e in inl (p.1 ∙ ap Err (p.2 ∙ same)))
+    (λ e. let same : c.in_err-finish.field-0.0 ≡ Fault c.spell_change.new.self.cell.owner = cc e in inr (p.1 ∙ ap Err (p.2 ∙ same ∙ ap Fault owner)))
+    c.in_err-finish.ensures.only in
+    rw (← c.self.view_is) (where_refused r (IsReadied c.self.inside.cell c.finish.new.self.cell ⊎ IsErrOf r NoMemory ⊎ IsErrOf r (Fault c.self.inside.cell.owner)) (inr is))
+
+pub returns-in_err-prepared-clause-failed : goal.returns-in_err-prepared-clause-failed
+returns-in_err-prepared-clause-failed g c host err =
+    let p = err_from_is_err_and c.from_residual.result c.from_residual.ensures.1 in
+    let e : p.0 ≡ Fault host = cc (sym p.1 ∙ err) in
+    absurd (c.prepare.ensures.no_fault host (c.in_err-prepared.was ∙ ap Err (sym p.2 ∙ e)))
+
+pub returns-in_err-finish-clause-failed : goal.returns-in_err-finish-clause-failed
+returns-in_err-finish-clause-failed g c =
+    let kept = readied_then c.self.inside.cell c.prepare.new.self c.spell_change.new.self.cell c.spell_change.ensures.cell c.prepare.ensures.kept in
+    let same = ap (λ (x : Cell g.row.D.Denot). caches_of x) c.spell_change.ensures.cell ∙ c.prepare.ensures.same in
+    let held = subst (λ (m : Mutation). IsNotEntered c.spell_change.new.self.cell c.finish.new.self.cell c.args.epoch m) c.in_ok-prepared.ensures.prepared.0 c.in_err-finish.ensures.left in
+    rw (← c.self.view_is) (λ host err. not_entered_before c.self.inside.cell c.spell_change.new.self.cell kept same c.finish.new.self.cell c.args.epoch c.args.mutation held)

@@ -1,4 +1,4 @@
-//! Cells on one disk in memory, the mutations that are asked of them, and the store that a restart leaves.
+//! Cells on one disk in memory, the mutations that are asked of them, and what a restart leaves.
 ghost use Rattle.std.specs.Prelude.{◌≡◌, ℕ, ◌≤◌, length, slice_get, Some};
 ghost use Rattle.cache_model.specs.PlainList.{HasPairs};
 ghost use Rattle.disk_memory.specs.History.{view_of};
@@ -53,16 +53,24 @@ pub(crate) fn plan_of(rt: &impl Abort, alloc: Global, failing: Failing, pick: u8
     }
 }
 
-// A lane of one disk of empty files, on which nothing is pending.
-fn lane_of(rt: &impl Abort, alloc: Global, plan: DiskPlan) -> Vec<MemoryDisk>
+// A lane of this disk, restarted: nothing is pending on it.
+fn lane_with(rt: &impl Abort, alloc: Global, mut disk: MemoryDisk) -> Vec<MemoryDisk>
     ensures one { length result.items ≡ 1 }
     ensures settled { (disk : MemoryDisk) → slice_get result.items 0 ≡ Some disk → (f : ℕ) → f ≤ 1 → IsSettled (view_of disk) f }
 {
-    let mut disk = MemoryDisk::new(alloc, plan).expect(rt, "a disk");
     disk.restart();
     let mut disks = Vec::new(alloc);
     disks.push(disk).expect(rt, "a lane");
     disks
+}
+
+// A lane of one disk of empty files.
+fn lane_of(rt: &impl Abort, alloc: Global, plan: DiskPlan) -> Vec<MemoryDisk>
+    ensures one { length result.items ≡ 1 }
+    ensures settled { (disk : MemoryDisk) → slice_get result.items 0 ≡ Some disk → (f : ℕ) → f ≤ 1 → IsSettled (view_of disk) f }
+{
+    let disk = MemoryDisk::new(alloc, plan).expect(rt, "a disk");
+    lane_with(rt, alloc, disk)
 }
 
 /// The first cell of partition 0 of 1, on host 0.
@@ -132,5 +140,36 @@ pub(crate) fn restarted(
             Some(Store::load(alloc, &mut disks[0], file, 0, 1).expect(rt, case))
         }
         Choice::NoStore => None,
+    }
+}
+
+// The one disk of a lane, restarted.
+fn restarted_lane(
+    rt: &impl Abort,
+    alloc: Global,
+    case: &str,
+    mut disks: Vec<MemoryDisk>,
+) -> Vec<MemoryDisk>
+    ensures one { length result.items ≡ 1 }
+    ensures settled { (disk : MemoryDisk) → slice_get result.items 0 ≡ Some disk → (f : ℕ) → f ≤ 1 → IsSettled (view_of disk) f }
+{
+    let Some(disk) = disks.pop() else {
+        panic!(rt; "{case}: no disk");
+    };
+    lane_with(rt, alloc, disk)
+}
+
+/// The cell of partition 0 that is opened again after a restart of its one disk, if a store is left.
+pub(crate) fn reopened(
+    rt: &impl Abort,
+    alloc: Global,
+    case: &str,
+    disks: Vec<MemoryDisk>,
+) -> Option<Cell<MemoryDisk>> {
+    let disks = restarted_lane(rt, alloc, case, disks);
+    match Cell::load_newest(alloc, disks, 0, 1, &[0]) {
+        Ok(cell) => Some(cell),
+        Err((CellRefusal::NoStore, _)) => None,
+        Err((refusal, _)) => panic!(rt; "{case}: {refusal:?}"),
     }
 }

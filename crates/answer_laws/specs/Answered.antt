@@ -7,11 +7,11 @@ use Rattle.cache_model.specs.Reply.{changes_asked}
 use Rattle.script_lines.specs.declared.command.Command.{Command}
 use Rattle.script_lines.specs.declared.command.Command.TheVariants.{Create, Recover, Stop, Dump, Steps}
 use Rattle.script_lines.specs.declared.command.Event.{Event}
-use Rattle.script_lines.specs.declared.command.Event.TheVariants.{Call}
+use Rattle.script_lines.specs.declared.command.Event.TheVariants.{Call, Renew}
 use Rattle.script_lines.specs.declared.answer.Answer.{Answer}
 use Rattle.script_lines.specs.declared.answer.Answer.TheVariants as answered
 use Rattle.script_lines.specs.declared.answer.Outcome.{Outcome}
-use Rattle.script_lines.specs.declared.answer.Outcome.TheVariants.{Replied, Refused}
+use Rattle.script_lines.specs.declared.answer.Outcome.TheVariants.{Replied, Renewed, Refused}
 use Rattle.cluster_commands.specs.State.{partition_count}
 
 -- what the parts of a request change, one after the other
@@ -19,10 +19,12 @@ abbrev pub changes_in_parts : List (ℕ × Request) → List Change
 changes_in_parts [] = []
 changes_in_parts (part ∷ parts) = changes_asked part.1 ++ changes_in_parts parts
 
--- the changes of an event, none where it was refused
+-- the changes of an event, none where it was refused; a renewal changes nothing
 abbrev pub change_done : Event → Outcome → List Change
 change_done (Call request) (Replied reply) = changes_in_parts (parts_of partition_count request)
 change_done (Call request) (Refused refusal) = []
+change_done (Call request) (Renewed partition id) = []
+change_done (Renew partition) outcome = []
 
 abbrev pub changes_done : List Event → List Outcome → List Change
 changes_done [] outcomes = []

@@ -7,13 +7,13 @@ use Rattle.cache_model.specs.Reply.{changes_asked}
 use Rattle.script_lines.specs.declared.command.Command.{Command}
 use Rattle.script_lines.specs.declared.command.Command.TheVariants.{Create, Recover, Stop, Dump, Steps}
 use Rattle.script_lines.specs.declared.command.Event.{Event}
-use Rattle.script_lines.specs.declared.command.Event.TheVariants.{Call}
+use Rattle.script_lines.specs.declared.command.Event.TheVariants.{Call, Renew}
 use Rattle.script_lines.specs.declared.answer.Answer.{Answer}
 use Rattle.script_lines.specs.declared.answer.Answer.TheVariants as answered
 use Rattle.script_lines.specs.declared.answer.Outcome.{Outcome}
-use Rattle.script_lines.specs.declared.answer.Outcome.TheVariants.{Replied, Refused}
+use Rattle.script_lines.specs.declared.answer.Outcome.TheVariants.{Replied, Renewed, Refused}
 use Rattle.script_lines.specs.declared.answer.Refusal.{Refusal}
-use Rattle.script_lines.specs.declared.answer.Refusal.TheVariants.{Closed, Open, NotMember, NotCreated, Fault, Damaged}
+use Rattle.script_lines.specs.declared.answer.Refusal.TheVariants.{Closed, Open, NotMember, NotCreated, Fault, Damaged, NoPartition, StoreFull, TrailFull, VersionEnd}
 use Rattle.answer_laws.specs.Answered.{changes_in_parts, events_of}
 use Rattle.cluster_commands.specs.State.{KnownFiles, unknown, no_store, store_in, partition_count}
 
@@ -25,6 +25,10 @@ RefusedKeeps (NotMember host) asked kept = kept ≡ []
 RefusedKeeps NotCreated asked kept = kept ≡ []
 RefusedKeeps (Fault host) asked kept = (kept ≡ []) ⊎ (kept ≡ asked)
 RefusedKeeps (Damaged host partition file at) asked kept = kept ≡ []
+RefusedKeeps (NoPartition partition) asked kept = kept ≡ []
+RefusedKeeps (StoreFull live) asked kept = kept ≡ []
+RefusedKeeps TrailFull asked kept = kept ≡ []
+RefusedKeeps VersionEnd asked kept = kept ≡ []
 
 -- Of parts of which one was refused, the changes of those before it are kept, of that one as the refusal allows, and of
 -- those after it none.
@@ -41,10 +45,12 @@ pub record StopsAtPart (refusal : Refusal) (parts : List (ℕ × Request)) (kept
 abbrev pub PartsKeep : List (ℕ × Request) → Outcome → List Change → Type 0
 PartsKeep parts (Replied reply) kept = kept ≡ changes_in_parts parts
 PartsKeep parts (Refused refusal) kept = StopsAtPart refusal parts kept
+PartsKeep parts (Renewed partition id) kept = ⊥
 
 -- of an event that came to this outcome, these changes are kept
 abbrev pub EventKeeps : Event → Outcome → List Change → Type 0
 EventKeeps (Call request) outcome kept = PartsKeep (parts_of partition_count request) outcome kept
+EventKeeps (Renew partition) outcome kept = kept ≡ []
 
 -- of these events, one after the other
 abbrev pub EventsKeep : List Event → List Outcome → List Change → Type 0
@@ -61,6 +67,10 @@ RefusedLeaves (Create host) (NotMember other) before after = after ≡ before
 RefusedLeaves (Create host) NotCreated before after = after ≡ before
 RefusedLeaves (Create host) (Fault other) before after = ⊤
 RefusedLeaves (Create host) (Damaged other partition file at) before after = after ≡ before
+RefusedLeaves (Create host) (NoPartition partition) before after = after ≡ before
+RefusedLeaves (Create host) (StoreFull live) before after = after ≡ before
+RefusedLeaves (Create host) TrailFull before after = after ≡ before
+RefusedLeaves (Create host) VersionEnd before after = after ≡ before
 RefusedLeaves (Recover host) refusal before after = after ≡ before
 RefusedLeaves Stop refusal before after = after ≡ before
 RefusedLeaves Dump refusal before after = after ≡ before
@@ -86,4 +96,4 @@ AnswersLeave before (command ∷ commands) [] after = ⊥
 abbrev pub MayHave : KnownFiles → List Change → Type 0
 MayHave unknown changes = ⊤
 MayHave no_store changes = ⊤
-MayHave (store_in alone file id held flight) changes = (changes ≡ held) ⊎ (changes ≡ held ++ flight)
+MayHave (store_in known) changes = (changes ≡ known.changes) ⊎ (changes ≡ known.changes ++ known.flight)

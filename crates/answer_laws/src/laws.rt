@@ -8,7 +8,7 @@ ghost use Rattle.cluster_commands.specs.State.{State, files_at};
 ghost use Rattle.answer_laws.specs.Run.{Run};
 ghost use Rattle.answer_laws.specs.Answered.{HasCreated, changes_answered};
 ghost use Rattle.answer_laws.specs.AnswersAllow.{AnswersLeave, MayHave};
-ghost use Rattle.cluster_commands.specs.OnDisk.{DiskIsIn, HasFirstStore};
+ghost use Rattle.cluster_commands.specs.OnDisk.{DiskIsIn, HoldChanges};
 
 use disk_trait::Disk;
 
@@ -22,10 +22,10 @@ pub fn answers_say_what_is_stored()
         → (before : List Change) × MayHave (files_at first.stage) before × AnswersLeave before commands answers after }
 {}
 
-/// After a run in which a create was answered and the disk didn't fail, file 0 has in each image the first store, with
+/// After a run in which a create was answered and the disk didn't fail, the newest of the two files stands in each image for
 /// exactly the changes that were answered since the last answered create.
 pub fn answered_changes_are_stored<D: Disk>(disk: &D)
     ensures { (hosts : List (List ℕ)) (first last : State) (commands : List Command) (answers : List Answer)
         → IsTrue first.tells → Run hosts first commands answers last → DiskIsIn (D.view disk.now) last → HasCreated answers → (Rose first.faults (D.view disk.now).faults → ⊥)
-        → HasFirstStore (changes_answered commands answers) (D.view disk.now) }
+        → HoldChanges (changes_answered commands answers) (D.view disk.now) }
 {}

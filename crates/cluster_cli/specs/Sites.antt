@@ -9,10 +9,32 @@ use Rattle.script_loop.specs.Chain.{Span, unbroken, IsRun}
 use Rattle.script_loop.specs.declared.status.Status.{Status}
 use Rattle.script_loop.specs.declared.status.Status.TheVariants.{Done, WordFault, ScriptFault, ReadFault, WriteFault, NoMemory}
 use Rattle.cluster_commands.specs.Breaks.{CommandBreaks}
-use Rattle.cluster_commands.specs.OnDisk.{FilesHold, DiskIsIn}
-use Rattle.cluster_commands.specs.State.{KnownFiles, State, begun, CommandStep}
+use Rattle.cluster_commands.specs.OnDisk.{FilesHold, DiskIsIn, lane_of}
+use Rattle.cluster_commands.specs.declared.cluster.Cluster.{Cluster}
+use Rattle.cluster_commands.specs.State.{KnownFiles, State, begun}
+use Rattle.cluster_commands.specs.Commands.{CommandStep}
 use Rattle.cluster_cli.specs.declared.site.Lane.{Lane}
 use Rattle.cluster_cli.specs.declared.site.Site.{Site}
+
+-- it is there, and has P
+abbrev pub IsThere : {T : Type 0} → Option T → (T → Type 0) → Type 0
+IsThere None P = ⊥
+IsThere (Some item) P = P item
+
+-- both are there, and are so related
+abbrev pub BothThere : {T : Type 0} → Option T → Option T → (T → T → Type 0) → Type 0
+BothThere (Some old) (Some new) R = R old new
+BothThere (Some old) None R = ⊥
+BothThere None new R = ⊥
+
+-- its lane has one disk
+abbrev pub HasOneDisk : {D : Type 0} → Cluster D → Type 0
+HasOneDisk cluster = length (lane_of cluster) ≡ 1
+
+-- the disks of the lane of a cluster that is there
+abbrev pub lane_left : {D : Type 0} → Option (Cluster D) → List D
+lane_left None = []
+lane_left (Some cluster) = lane_of cluster
 
 -- one lane for each partition, and in each lane one disk for each host
 pub record HasLanes {D : Type 0} (lanes : List (Lane D)) (partitions hosts : ℕ) : Type 0 where

@@ -1,7 +1,8 @@
-//! A cluster with the disk that it stands on, as the machine of a script.
+//! A cluster with its disks, as the machine of a script.
 ghost use Rattle.std.specs.Prelude.{◌≡◌};
 ghost use Rattle.cluster_commands.specs.Breaks.{Carries, BreaksOff};
 ghost use Rattle.cluster_commands.specs.OnDisk.{IsReady};
+ghost use Rattle.cluster_cli.specs.Sites.{IsThere, BothThere, HasOneDisk};
 
 use cache_key::HostName;
 use cluster_commands::{Cluster, obey};
@@ -10,24 +11,29 @@ use script_lines::{Answer, Command};
 use script_loop::Machine;
 use std::alloc::{AllocError, Global};
 
-/// A cluster, if one is open, with the hosts of its site and the disk of its one partition.
-///
-/// It owns nothing: what is behind a `&mut` in a struct that owns memory isn't known once the struct is let go.
+/// A cluster, if one is open, on the disks of its lane, with the hosts of its site.
 #[derive(Drop)]
-pub struct ClusterMachine<'a, D> {
+pub struct ClusterMachine<'a, D: Disk> {
     pub hosts: &'a [HostName],
-    pub disk: &'a mut D,
-    pub cluster: &'a mut Cluster,
+    /// It is there between two commands.
+    pub cluster: Option<Cluster<D>>,
 }
 
 impl<'a, D: Disk> Machine for ClusterMachine<'a, D> {
-    ghost answers = { λ old command answer new. (new.hosts ≡ old.hosts) × (new.disk.ghost_name ≡ old.disk.ghost_name) × Carries old.hosts.now old.cluster.now (D.view old.disk.now) command answer new.cluster.now (D.view new.disk.now) };
+    ghost answers = { λ old command answer new. (new.hosts ≡ old.hosts) × BothThere old.cluster new.cluster (λ before after. Carries D.view old.hosts.now before command answer after × HasOneDisk after) };
 
-    ghost breaks = { λ old command new. (new.hosts ≡ old.hosts) × (new.disk.ghost_name ≡ old.disk.ghost_name) × BreaksOff old.hosts.now old.cluster.now (D.view old.disk.now) command (D.view new.disk.now) };
+    ghost breaks = { λ old command new. (new.hosts ≡ old.hosts) × BothThere old.cluster new.cluster (λ before after. BreaksOff D.view old.hosts.now before command after × HasOneDisk after) };
 
-    ghost is_ready = { λ machine. IsReady machine.cluster.now (D.view machine.disk.now) };
+    ghost is_ready = { λ machine. IsThere machine.cluster (IsReady D.view) };
 
     fn command(&mut self, alloc: Global, command: Command) -> Result<Answer, AllocError> {
-        obey(alloc, self.hosts, self.disk, self.cluster, command)
+        let Some(cluster) = self.cluster.take() else {
+            unreachable!()
+        };
+        let (cluster, answer) = obey(alloc, self.hosts, cluster, command);
+        match self.cluster.replace(cluster) {
+            None => answer,
+            Some(_) => unreachable!(),
+        }
     }
 }

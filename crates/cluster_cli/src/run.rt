@@ -1,5 +1,5 @@
 //! The top call.
-ghost use Rattle.std.specs.Prelude.{◌≡◌, ◌≢◌, ◌⊎◌, ℕ, ◌≤◌, List, vec_len, Some};
+ghost use Rattle.std.specs.Prelude.{◌≡◌, ◌≢◌, ◌⊎◌, ℕ, ◌<◌, ◌≤◌, List, [], ◌∷◌, length, vec_len, vec_capacity, Some};
 ghost use Rattle.fault_count.specs.Rose.{Rose};
 ghost use Rattle.disk_trait.specs.Moments.{Later};
 ghost use Rattle.plan_words.specs.Words.{IsSiteOf, HasNoPlan, words_of};
@@ -9,16 +9,15 @@ ghost use Rattle.script_loop.specs.Ends.{EndsReport, IsSurvived};
 ghost use Rattle.script_loop.specs.Script.{IsScriptOf};
 ghost use Rattle.script_loop.specs.declared.status.Status.{Status};
 ghost use Rattle.cluster_cli.specs.Ends.{HasPlan, StatusHasCause, IsRefused};
-ghost use Rattle.cluster_commands.specs.OnDisk.{IsInState, IsReady};
-ghost use Rattle.cluster_cli.specs.Sites.{HasLanes, ForRuns, FromStart, IsLeftBy, IsGivenBack, run_on};
+ghost use Rattle.cluster_commands.specs.OnDisk.{IsInState, IsReady, IsDiskRestarted, lane_view};
+ghost use Rattle.cluster_cli.specs.Sites.{IsThere, HasOneDisk, lane_left, HasLanes, ForRuns, FromStart, IsLeftBy, IsGivenBack, run_on};
 ghost use Rattle.cluster_commands.specs.State.{State};
-ghost use Rattle.cluster_commands.specs.declared.cluster.Cluster.TheVariants.{Closed};
 
 use crate::machine::ClusterMachine;
-use crate::site::{Ended, Reason, Site};
+use crate::site::{Ended, Lane, Reason, Site};
 use byte_streams::{Sink, Source};
 use cache_key::HostName;
-use cluster_commands::{Cluster, restart_disk};
+use cluster_commands::{Cluster, restart_lane};
 use disk_trait::Disk;
 use plan_words::{WordFault, site_plan};
 use report_lines::Fault;
@@ -115,62 +114,104 @@ fn run_words<S: Source, K: Sink, D: Disk, V>(
             };
         }
     }
-    let finish = run_plan(
-        alloc,
-        &site.hosts,
-        source,
-        sink,
-        &mut site.lanes[0].disks[0],
-    );
+    let disks = take_disks(&mut site.lanes);
+    let planned = run_plan(alloc, &site.hosts, source, sink, disks);
+    site.lanes.push_reserved(Lane {
+        disks: planned.disks,
+    });
     Ran {
-        status: finish.status,
-        reason: finish.faulty.map(|line| Reason::Line { line }),
+        status: planned.finish.status,
+        reason: planned.finish.faulty.map(|line| Reason::Line { line }),
     }
 }
 
-// Carries out a script by a plan, on the disk, which is restarted.
+// Takes the lane out, which is the only one. Room is left for it.
+fn take_disks<D>(lanes: &mut Vec<Lane<D>>) -> Vec<D>
+    requires lanes { HasLanes lanes.old.items 1 1 }
+    ensures taken { lanes.old.items ≡ record { disks = result } ∷ [] }
+    ensures none { lanes.new.items ≡ [] }
+    ensures room { vec_len lanes.new < vec_capacity lanes.new }
+    ensures one { length result.items ≡ 1 }
+{
+    match lanes.pop() {
+        Some(lane) => lane.disks,
+        None => unreachable!(),
+    }
+}
+
+// How a run by a plan ended, with the disks of the lane.
+#[derive(Drop)]
+struct Planned<D> {
+    finish: Finish,
+    disks: Vec<D>,
+}
+
+// Carries out a script by a plan, on the disks of the lane, of which the one is restarted. Gives the disks back.
 fn run_plan<S: Source, K: Sink, D: Disk>(
     alloc: Global,
     hosts: &[HostName],
     source: &mut S,
     sink: &mut K,
-    disk: &mut D,
-) -> Finish
-    ensures words { result.status ≢ Status.WordFault }
-    ensures ends { (script : List ℕ) → S.left source.old ≡ Some script → FromStart result.status (D.view disk.old) (D.view disk.new) (λ first. EndsReport (run_on hosts.now first (D.view disk.new)) script (Rose (S.faults source.old) (S.faults source.new)) (K.written sink.old) result.status (S.left source.new) (K.written sink.new)) }
-    ensures kept { FromStart result.status (D.view disk.old) (D.view disk.new) (λ first. IsLeftBy result.status (run_on hosts.now first (D.view disk.new))) }
-    ensures complete { (script : List ℕ) (commands : List Command) → S.left source.old ≡ Some script → IsScriptOf script commands → result.status ≢ Status.ScriptFault }
-    ensures read { result.status ≡ Status.ReadFault → Rose (S.faults source.old) (S.faults source.new) }
-    ensures write { result.status ≡ Status.WriteFault → Rose (K.faults sink.old) (K.faults sink.new) }
-    ensures later { Later (D.view disk.old) (D.view disk.new) }
+    disks: Vec<D>,
+) -> Planned<D>
+    requires one { length disks.items ≡ 1 }
+    ensures words { result.finish.status ≢ Status.WordFault }
+    ensures ends { (script : List ℕ) → S.left source.old ≡ Some script → FromStart result.finish.status (lane_view D.view disks.items) (lane_view D.view result.disks.items) (λ first. EndsReport (run_on hosts.now first (lane_view D.view result.disks.items)) script (Rose (S.faults source.old) (S.faults source.new)) (K.written sink.old) result.finish.status (S.left source.new) (K.written sink.new)) }
+    ensures kept { FromStart result.finish.status (lane_view D.view disks.items) (lane_view D.view result.disks.items) (λ first. IsLeftBy result.finish.status (run_on hosts.now first (lane_view D.view result.disks.items))) }
+    ensures complete { (script : List ℕ) (commands : List Command) → S.left source.old ≡ Some script → IsScriptOf script commands → result.finish.status ≢ Status.ScriptFault }
+    ensures read { result.finish.status ≡ Status.ReadFault → Rose (S.faults source.old) (S.faults source.new) }
+    ensures write { result.finish.status ≡ Status.WriteFault → Rose (K.faults sink.old) (K.faults sink.new) }
+    ensures later { Later (lane_view D.view disks.items) (lane_view D.view result.disks.items) }
+    ensures one { length result.disks.items ≡ 1 }
 {
-    restart_disk(disk);
-    let mut cluster = Cluster::Closed;
+    let disks = restarted(disks);
     let mut machine = ClusterMachine {
         hosts,
-        disk,
-        cluster: &mut cluster,
+        cluster: Some(Cluster::Closed { disks }),
     };
-    drive(alloc, source, sink, &mut machine)
+    let finish = drive(alloc, source, sink, &mut machine);
+    let disks = disks_of(machine.cluster);
+    Planned { finish, disks }
 }
 
-// Carries out a script on the machine, on which no cluster is open.
+// The disks of the lane, of which the one was restarted.
+fn restarted<D: Disk>(mut disks: Vec<D>) -> Vec<D>
+    requires one { length disks.items ≡ 1 }
+    ensures restarted { IsDiskRestarted (lane_view D.view disks.items) (lane_view D.view result.items) }
+    ensures one { length result.items ≡ 1 }
+{
+    restart_lane(disks.as_mut_slice());
+    disks
+}
+
+// The disks of the lane of a cluster, which is there.
+fn disks_of<D: Disk>(cluster: Option<Cluster<D>>) -> Vec<D>
+    requires one { IsThere cluster HasOneDisk }
+    ensures left { result.items ≡ lane_left cluster }
+    ensures one { length result.items ≡ 1 }
+{
+    match cluster {
+        Some(cluster) => cluster.into_lane(),
+        None => unreachable!(),
+    }
+}
+
+// Carries out a script on the machine.
 fn drive<S: Source, K: Sink, D: Disk>(
     alloc: Global,
     source: &mut S,
     sink: &mut K,
     machine: &mut ClusterMachine<D>,
 ) -> Finish
-    requires closed { machine.old.cluster.now ≡ Closed }
-    requires ready { IsReady machine.old.cluster.now (D.view machine.old.disk.now) }
-    ensures same_reference { machine.new.disk.ghost_name ≡ machine.old.disk.ghost_name }
+    requires ready { IsThere machine.old.cluster (IsReady D.view) }
     ensures words { result.status ≢ Status.WordFault }
-    ensures ends { (first : State) (script : List ℕ) → IsInState Closed (D.view machine.old.disk.now) first → S.left source.old ≡ Some script → EndsReport (run_on machine.old.hosts.now first (D.view machine.new.disk.now)) script (Rose (S.faults source.old) (S.faults source.new)) (K.written sink.old) result.status (S.left source.new) (K.written sink.new) }
-    ensures kept { (first : State) → IsInState Closed (D.view machine.old.disk.now) first → IsLeftBy result.status (run_on machine.old.hosts.now first (D.view machine.new.disk.now)) }
+    ensures ends { (first : State) (script : List ℕ) → IsThere machine.old.cluster (λ cluster. IsInState D.view cluster first) → S.left source.old ≡ Some script → EndsReport (run_on machine.old.hosts.now first (lane_view D.view (lane_left machine.new.cluster))) script (Rose (S.faults source.old) (S.faults source.new)) (K.written sink.old) result.status (S.left source.new) (K.written sink.new) }
+    ensures kept { (first : State) → IsThere machine.old.cluster (λ cluster. IsInState D.view cluster first) → IsLeftBy result.status (run_on machine.old.hosts.now first (lane_view D.view (lane_left machine.new.cluster))) }
     ensures complete { (script : List ℕ) (commands : List Command) → S.left source.old ≡ Some script → IsScriptOf script commands → result.status ≢ Status.ScriptFault }
     ensures read { result.status ≡ Status.ReadFault → Rose (S.faults source.old) (S.faults source.new) }
     ensures write { result.status ≡ Status.WriteFault → Rose (K.faults sink.old) (K.faults sink.new) }
-    ensures later { Later (D.view machine.old.disk.now) (D.view machine.new.disk.now) }
+    ensures later { Later (lane_view D.view (lane_left machine.old.cluster)) (lane_view D.view (lane_left machine.new.cluster)) }
+    ensures one { IsThere machine.new.cluster HasOneDisk }
 {
     report_script(alloc, source, sink, machine)
 }

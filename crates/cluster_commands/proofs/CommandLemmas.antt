@@ -1,55 +1,65 @@
 -- What a command does to the code, the disk and the state.
-use Rattle.std.proofs.Common.{◌≡◌, ◌⊎◌, inl, inr, ⊎_elim, ℕ, ◌≤◌, arith, List, [], ◌++◌, refl, sym, ◌∙◌, ap, subst, Bool, false, Option, Some, None}
+use Rattle.std.proofs.Common.{◌≡◌, ◌⊎◌, inl, inr, ⊎_elim, ℕ, ◌≤◌, arith, List, [], ◌++◌, length, refl, sym, ◌∙◌, ap, subst, Bool, false, Option, Some, None}
 use Rattle.std.specs.Prelude.{IsTrue, Contains}
 use Rattle.fault_count.specs.Rose.{Rose}
 use Rattle.fault_count.specs.OneMore.{IsOneMore}
-use Rattle.cache_key.specs.declared.request.Mutation.{Mutation}
-use Rattle.cache_model.specs.Change.{Change, changes_of}
-use Rattle.disk_trait.specs.View.{Image, View, Tells}
-use Rattle.disk_trait.specs.Calls.{Fewer, Same}
-use Rattle.disk_trait.specs.Moments.{Now, Throughout, Onward, Later}
-use Rattle.disk_trait.proofs.Runs.{holds_now, later_joined, later_onward}
-use Rattle.partition_map.specs.After.{AgreesWith}
-use Rattle.seal_gate.specs.Seal.{IsSealed, IsSettled}
-use Rattle.store_ident.specs.declared.ident.StoreId.{StoreId}
-use Rattle.store_journal.specs.declared.store.Store.{Store}
-use Rattle.store_journal.specs.Created.{IsUnsealed}
-use Rattle.newest_store.specs.Newest.{HasStore, IsNewest, IsOpened, IsDamagedIn}
-use Rattle.newest_store.specs.declared.fault.NewestFault.{NewestFault}
-use Rattle.newest_store.specs.declared.fault.NewestFault.TheVariants as newest
-use Rattle.newest_store.proofs.NewestLemmas.{has_store_in}
+use Rattle.cache_model.specs.Caches.{Caches}
+use Rattle.cache_model.specs.Change.{Change}
+use Rattle.cache_model.specs.Contents.{AreContentsAfter}
+use Rattle.cache_model.proofs.ContentsLemmas.{SameContents-from_one}
+use Rattle.disk_trait.specs.View.{View, Tells}
+use Rattle.disk_trait.specs.Calls.{Fewer}
+use Rattle.disk_trait.specs.Moments.{Onward, Later}
+use Rattle.disk_trait.proofs.Runs.{later_joined, later_none, later_onward}
+use Rattle.seal_gate.specs.Seal.{IsSettled}
 use Rattle.script_lines.specs.declared.command.Command.{Command}
 use Rattle.script_lines.specs.declared.command.Command.TheVariants.{Create, Recover, Stop, Dump, Steps}
 use Rattle.script_lines.specs.declared.command.Event.{Event}
 use Rattle.script_lines.specs.declared.answer.Answer.{Answer}
 use Rattle.script_lines.specs.declared.answer.Answer.TheVariants as answered
-use Rattle.script_lines.specs.declared.answer.Refusal.{Refusal}
 use Rattle.script_lines.specs.declared.answer.Refusal.TheVariants as refusals
-use Rattle.cluster_commands.specs.State.{OpenCluster, KnownFiles, unknown, no_store, store_in, Stage, closed, opened, failing, files_at, State, begun, RestartCount, Counts, made_at, first_store, IsDump, IsStepped, OpenStep, ClosedStep, StageStep, IsAsKnown, MayLack, restarts_at}
-use Rattle.cluster_commands.specs.Breaks.{EventsBreak, CommandBreaks, not_done, half_made, half_stepped, IsCarriedOut, IsBrokenOff}
-use Rattle.cluster_commands.specs.OnDisk.{cluster_of, stage_with, stage_of, state_of, HasChanges, IsStage, StateSteps, IsReady, FilesHold, IsInState}
-use Rattle.cluster_commands.specs.Refusals.{refusal_for}
+use Rattle.cluster_commands.specs.Breaks.{EventsBreak, CommandBreaks, not_done, half_made, half_stepped, IsCarriedOut, IsBrokenOff, Carries, BreaksOff}
+use Rattle.cluster_commands.specs.Commands.{made_at, IsDump, IsStepped, OpenStep, ClosedStep, StageStep, restarts_at}
+use Rattle.cluster_commands.specs.OnDisk.{IsClosed, lane_of, lane_view, disks_in, IsClusterOf, state_of, IsStage, StateSteps, IsReady, FilesHold, IsDiskRestarted, IsInState}
+use Rattle.cluster_commands.specs.State.{OpenCluster, KnownFiles, unknown, store_in, known_of, Stage, closed, opened, files_at, State, begun, RestartCount, Counts}
 use Rattle.cluster_commands.specs.declared.cluster.Cluster.{Cluster}
 use Rattle.cluster_commands.specs.declared.cluster.Cluster.TheVariants.{Closed, Open}
 use Rattle.cluster_commands.specs.declared.cluster.Opened.{Opened}
-use Rattle.cluster_commands.proofs.FilesLemmas.{files_fewer}
-use Rattle.cluster_commands.proofs.StoredLemmas.{stored, at_open, kept_sound}
+use Rattle.cluster_commands.proofs.FilesLemmas.{files_fewer, contents_of_same}
 
 -- ---- while no cluster is open
 
 -- what is known of the files
-abbrev pub known_then : (v : View) (stage : Stage) → IsStage Closed v stage → (files : KnownFiles) × (stage ≡ closed files)
-known_then v (closed files) is = (files, refl)
-known_then v (opened cluster) is = absurd is
-known_then v (failing cluster flight) is = absurd is
+pub known_then : {D : Type 0} (cluster : Cluster D) (stage : Stage) → IsClosed cluster → IsStage cluster stage → (files : KnownFiles) × (stage ≡ closed files)
+known_then (Closed disks) (closed files) shut is = (files, refl)
+known_then (Closed disks) (opened seen) shut is = absurd is
+known_then (Open open_) stage shut is = absurd shut
+
+closed_stage : {D : Type 0} (cluster : Cluster D) (files : KnownFiles) → IsClosed cluster → IsStage cluster (closed files)
+closed_stage (Closed disks) files shut = tt
+closed_stage (Open open_) files shut = absurd shut
+
+pub ready_closed : {D : Type 0} (view : D → View) (cluster : Cluster D) → IsClosed cluster → length (lane_of cluster) ≡ 1 → IsSettled (lane_view view (lane_of cluster)) 0 × IsSettled (lane_view view (lane_of cluster)) 1 → IsReady view cluster
+ready_closed view (Closed disks) shut one settled = (one, settled.0, settled.1)
+ready_closed view (Open open_) shut one settled = absurd shut
 
 -- with no cluster, on a disk of which this is known
-at_closed : (v : View) (files : KnownFiles) (tells : Bool) → (IsTrue tells → Tells v) → FilesHold files v → IsInState Closed v (begun tells files v.faults v.restarts)
-at_closed v files tells does hold = record { faults = refl; restarts = refl; tells = does; stage = tt; files = hold }
+at_closed : {D : Type 0} (view : D → View) (cluster : Cluster D) (files : KnownFiles) (tells : Bool) → IsClosed cluster → (IsTrue tells → Tells (lane_view view (lane_of cluster))) → FilesHold files (lane_view view (lane_of cluster))
+    → IsInState view cluster (begun tells files (lane_view view (lane_of cluster)).faults (lane_view view (lane_of cluster)).restarts)
+at_closed view cluster files tells shut does hold = record { faults = refl; restarts = refl; tells = does; stage = closed_stage cluster files shut; files = hold }
+
+-- with a cluster
+at_open : {D : Type 0} (view : D → View) (open_ : Opened D) (seen : OpenCluster) (tells : Bool) → IsClusterOf open_ seen → (IsTrue tells → Tells (lane_view view (disks_in open_))) → FilesHold (store_in (known_of seen)) (lane_view view (disks_in open_))
+    → IsInState view (Open open_) (state_of seen (lane_view view (disks_in open_)) tells)
+at_open view open_ seen tells is does hold = record { faults = refl; restarts = refl; tells = does; stage = is; files = hold }
+
+-- no restart came between
+same_count : (v w : View) → Onward v w → RestartCount false v.restarts w.restarts
+same_count v w on = on.restarts
 
 -- the counts go on as those of the disk
-module _ (cluster : Cluster) (v w : View) (state : State) (at : IsInState cluster v state) where
-  counts : (restarted : Bool) (stage : Stage) → v.faults ≤ w.faults → RestartCount restarted v.restarts w.restarts
+module _ {D : Type 0} (view : D → View) (cluster : Cluster D) (w : View) (state : State) (at : IsInState view cluster state) where
+  counts : (restarted : Bool) (stage : Stage) → (lane_view view (lane_of cluster)).faults ≤ w.faults → RestartCount restarted (lane_view view (lane_of cluster)).restarts w.restarts
       → Counts restarted state (record { stage = stage; faults = w.faults; restarts = w.restarts; tells = state.tells })
   counts restarted stage more count = record {
     faults = (let same = at.faults in omega (arith, same, more));
@@ -57,271 +67,95 @@ module _ (cluster : Cluster) (v w : View) (state : State) (at : IsInState cluste
     tells = refl;
   }
 
-  rose : Rose v.faults w.faults → Rose state.faults w.faults
+  pub rose : Rose (lane_view view (lane_of cluster)).faults w.faults → Rose state.faults w.faults
   rose is = subst (λ (n : ℕ). Rose n w.faults) (sym at.faults) is
 
--- no restart came between
-same_count : (v w : View) → Onward v w → RestartCount false v.restarts w.restarts
-same_count v w on = on.restarts
+module _ {D : Type 0} (hosts : List (List ℕ)) (view : D → View) (old new : Cluster D) (state : State) (at : IsInState view old state) (was : IsClosed old) (on : Later (lane_view view (lane_of old)) (lane_view view (lane_of new))) where
+  abbrev v : View
+  v = lane_view view (lane_of old)
 
-module _ (hosts : List (List ℕ)) (v w : View) (state : State) (at : IsInState Closed v state) (on : Later v w) where
+  abbrev w : View
+  w = lane_view view (lane_of new)
+
   tells_on : IsTrue state.tells → Tells w
   tells_on = λ is. on.tells (at.tells is)
 
-  abbrev known : KnownFiles
-  known = (known_then v state.stage at.stage).0
+  abbrev pub known : KnownFiles
+  known = (known_then old state.stage was at.stage).0
 
   closed_with : state.stage ≡ closed known
-  closed_with = (known_then v state.stage at.stage).1
+  closed_with = (known_then old state.stage was at.stage).1
 
-  were_known : FilesHold known v
+  pub were_known : FilesHold known v
   were_known = subst (λ (s : Stage). FilesHold (files_at s) v) closed_with at.files
 
   -- the command leaves the cluster closed, with this known of the files
-  carried : (command : Command) (answer : Answer) (files : KnownFiles) → RestartCount (restarts_at answer) v.restarts w.restarts → FilesHold files w
-      → ClosedStep hosts state known command answer (begun state.tells files w.faults w.restarts) → IsCarriedOut hosts state command answer Closed w
-  carried command answer files count hold step = record {
+  pub carried : (command : Command) (answer : Answer) (files : KnownFiles) → IsClosed new → RestartCount (restarts_at answer) v.restarts w.restarts → FilesHold files w
+      → ClosedStep hosts state known command answer (begun state.tells files w.faults w.restarts) → IsCarriedOut view hosts state command answer new
+  carried command answer files shut count hold step = record {
     new = begun state.tells files w.faults w.restarts;
-    at = at_closed w files state.tells tells_on hold;
+    at = at_closed view new files state.tells shut tells_on hold;
     step = (
-      counts Closed v w state at (restarts_at answer) (closed files) on.faults count,
+      counts view old w state at (restarts_at answer) (closed files) on.faults count,
       subst (λ (s : Stage). StageStep hosts s state command answer (begun state.tells files w.faults w.restarts)) (sym closed_with) step,
     );
   }
 
-  -- the command opens a cluster
-  carried_open : (command : Command) (answer : Answer) (cluster : Opened) (changes : List Change) → RestartCount (restarts_at answer) v.restarts w.restarts → HasChanges cluster w changes
-      → ClosedStep hosts state known command answer (state_of cluster changes w state.tells) → IsCarriedOut hosts state command answer (Open cluster) w
-  carried_open command answer cluster changes count on_disk step = record {
-    new = state_of cluster changes w state.tells;
-    at = at_open cluster w changes state.tells on_disk tells_on;
+  -- it is refused with a restart, and changes nothing
+  pub not_member_create : (host : List ℕ) (answer : Answer) → IsClosed new → Fewer v w → IsOneMore v.restarts w.restarts → ¬ Contains hosts host → answer ≡ answered.Refused (refusals.NotMember host)
+      → IsCarriedOut view hosts state (Create host) answer new
+  not_member_create host answer shut fewer count lacks is =
+      carried (Create host) answer known shut (subst (λ (a : Answer). RestartCount (restarts_at a) v.restarts w.restarts) (sym is) count) (files_fewer known v w fewer were_known) (inr (inl (lacks, is, refl)))
+
+  pub not_member_recover : (host : List ℕ) (answer : Answer) → IsClosed new → Fewer v w → IsOneMore v.restarts w.restarts → ¬ Contains hosts host → answer ≡ answered.Refused (refusals.NotMember host)
+      → IsCarriedOut view hosts state (Recover host) answer new
+  not_member_recover host answer shut fewer count lacks is =
+      carried (Recover host) answer known shut (subst (λ (a : Answer). RestartCount (restarts_at a) v.restarts w.restarts) (sym is) count) (files_fewer known v w fewer were_known) (inr (inl (lacks, is, refl)))
+
+  -- a create under which the disk failed
+  pub failed_create : (host : List ℕ) (answer : Answer) → IsClosed new → IsOneMore v.restarts w.restarts → Contains hosts host → Rose v.faults w.faults → answer ≡ answered.Refused (refusals.Fault host)
+      → IsCarriedOut view hosts state (Create host) answer new
+  failed_create host answer shut count has failed is =
+      carried (Create host) answer unknown shut (subst (λ (a : Answer). RestartCount (restarts_at a) v.restarts w.restarts) (sym is) count) tt (inr (inr (has, is, rose view old w state at failed, refl)))
+
+  -- one that memory ran out in
+  pub half_create : (host : List ℕ) → Onward v w → Contains hosts host → IsBrokenOff hosts state (Create host) w
+  half_create host same has = record {
+    new = begun state.tells unknown w.faults w.restarts;
+    at_end = record { faults = omega arith; restarts = refl; files = tt };
+    breaks = half_made host known refl has closed_with (counts view old w state at false (closed unknown) on.faults (same_count v w same)) refl;
+  }
+
+  -- nothing of a command is done
+  pub not_begun : (command : Command) → Onward v w → FilesHold known w → IsBrokenOff hosts state command w
+  not_begun command same hold = record {
+    new = begun state.tells known w.faults w.restarts;
+    at_end = record { faults = omega arith; restarts = refl; files = hold };
+    breaks = not_done (counts view old w state at false (closed known) on.faults (same_count v w same)) (sym closed_with);
+  }
+
+-- ---- a cluster is opened
+
+module _ {D : Type 0} (hosts : List (List ℕ)) (view : D → View) (old : Cluster D) (open_ : Opened D) (seen : OpenCluster) (state : State) (at : IsInState view old state) (was : IsClosed old)
+    (same : Onward (lane_view view (lane_of old)) (lane_view view (disks_in open_))) (is_seen : IsClusterOf open_ seen) (hold : FilesHold (store_in (known_of seen)) (lane_view view (disks_in open_))) where
+  abbrev over : Later (lane_view view (lane_of old)) (lane_view view (disks_in open_))
+  over = later_onward _ _ same
+
+  pub carried_open : (command : Command) (answer : Answer) → restarts_at answer ≡ false
+      → ClosedStep hosts state (known hosts view old (Open open_) state at was over) command answer (state_of seen (lane_view view (disks_in open_)) state.tells) → IsCarriedOut view hosts state command answer (Open open_)
+  carried_open command answer stays step = record {
+    new = state_of seen (lane_view view (disks_in open_)) state.tells;
+    at = at_open view open_ seen state.tells is_seen (λ does. same.tells (at.tells does)) hold;
     step = (
-      counts Closed v w state at (restarts_at answer) (stage_of cluster changes) on.faults count,
-      subst (λ (s : Stage). StageStep hosts s state command answer (state_of cluster changes w state.tells)) (sym closed_with) step,
+      counts view old (lane_view view (disks_in open_)) state at (restarts_at answer) (opened seen) same.faults (subst (λ (b : Bool). RestartCount b (lane_view view (lane_of old)).restarts (lane_view view (disks_in open_)).restarts) (sym stays) same.restarts),
+      subst (λ (s : Stage). StageStep hosts s state command answer (state_of seen (lane_view view (disks_in open_)) state.tells)) (sym (closed_with hosts view old (Open open_) state at was over)) step,
     );
   }
 
-  -- the command is broken off, with this known of the files
-  broken : (command : Command) (files : KnownFiles) → FilesHold files w → CommandBreaks hosts state command (begun state.tells files w.faults w.restarts) → IsBrokenOff hosts state command w
-  broken command files hold breaks = record {
-    new = begun state.tells files w.faults w.restarts;
-    at_end = record { faults = omega arith; restarts = refl; files = hold };
-    breaks = breaks;
-  }
-
-  -- ---- creation
-
-  pub not_member_create : (host : List ℕ) (answer : Answer) → Fewer v w → IsOneMore v.restarts w.restarts → ¬ Contains hosts host → answer ≡ answered.Refused (refusals.NotMember host)
-      → IsCarriedOut hosts state (Create host) answer Closed w
-  not_member_create host answer fewer count not is =
-      carried (Create host) answer known (subst (λ (a : Answer). RestartCount (restarts_at a) v.restarts w.restarts) (sym is) count) (files_fewer known v w fewer were_known) (inr (inl (not, is, refl)))
-
-  pub failed_create : (host : List ℕ) (answer : Answer) → IsOneMore v.restarts w.restarts → Contains hosts host → Rose v.faults w.faults → answer ≡ answered.Refused (refusals.Fault host)
-      → IsCarriedOut hosts state (Create host) answer Closed w
-  failed_create host answer count has is_risen is =
-      carried (Create host) answer unknown (subst (λ (a : Answer). RestartCount (restarts_at a) v.restarts w.restarts) (sym is) count) tt (inr (inr (has, is, rose Closed v w state at is_risen, refl)))
-
-  pub half_create : (host : List ℕ) → Onward v w → Contains hosts host → IsBrokenOff hosts state (Create host) w
-  half_create host same has = broken (Create host) unknown tt (half_made host known refl has closed_with (counts Closed v w state at false (closed unknown) on.faults (same_count v w same)) refl)
-
-  pub made_create : (host : List ℕ) (answer : Answer) (cluster : Opened) → Onward v w → Contains hosts host → answer ≡ answered.Created host → stage_of cluster [] ≡ opened (made_at host) → HasChanges cluster w []
-      → IsCarriedOut hosts state (Create host) answer (Open cluster) w
-  made_create host answer cluster same has is stage on_disk =
-      carried_open (Create host) answer cluster [] (subst (λ (a : Answer). RestartCount (restarts_at a) v.restarts w.restarts) (sym is) (same_count v w same)) on_disk (inl (has, is, stage))
-
-  pub not_member_recover : (host : List ℕ) (answer : Answer) → Fewer v w → IsOneMore v.restarts w.restarts → ¬ Contains hosts host → answer ≡ answered.Refused (refusals.NotMember host)
-      → IsCarriedOut hosts state (Recover host) answer Closed w
-  not_member_recover host answer fewer count not is =
-      carried (Recover host) answer known (subst (λ (a : Answer). RestartCount (restarts_at a) v.restarts w.restarts) (sym is) count) (files_fewer known v w fewer were_known) (inr (inl (not, is, refl)))
-
--- ---- recovery
-
--- every image of a settled disk has the store that a read shows
-everywhere : (v : View) (file : ℕ) (id : StoreId) (changes : List Change) → IsSettled v 0 → IsSettled v 1 → HasStore 0 1 file id changes v.seen → Now v (HasStore 0 1 file id changes)
-everywhere v file id changes first second has = λ m is. has_store_in 0 1 file id changes v.seen m (first m is) (second m is) has
-
--- which of the two it is, where something is in flight
-which : (v : View) (alone : Bool) (file : ℕ) (id : StoreId) (changes flight : List Change) → IsSettled v 0 → IsSettled v 1 → Tells v → FilesHold (store_in alone file id changes flight) v
-    → Now v (HasStore 0 1 file id changes) ⊎ Now v (HasStore 0 1 file id (changes ++ flight))
-which v alone file id changes flight first second tells hold = ⊎_elim
-    (λ old. inl (everywhere v file id changes first second old))
-    (λ new. inr (everywhere v file id (changes ++ flight) first second new))
-    (hold v.seen tells).1
-
-abbrev pub Survive : View → View → Type 0
-Survive v w = (file : ℕ) (id : StoreId) (changes : List Change) → Now v (HasStore 0 1 file id changes) → Throughout v w (HasStore 0 1 file id changes)
-
--- files that hold no store are left as they were
-abbrev pub Spares : View → View → Type 0
-Spares v w = Tells v → ((file : ℕ) → file ≤ 1 → IsUnsealed (v.seen file)) → Same v w
-
--- a file that isn't sealed stays so
-abbrev pub StaysUnsealed : View → View → Type 0
-StaysUnsealed v w = (file : ℕ) → file ≤ 1 → Now v (λ m. IsUnsealed (m file)) → Throughout v w (λ m. IsUnsealed (m file))
-
--- what the files stood for they stand for
-pub kept_by : (files : KnownFiles) (v w : View) → IsSettled v 0 → IsSettled v 1 → (Tells w → Tells v) → Survive v w → Spares v w → StaysUnsealed v w → FilesHold files v → FilesHold files w
-kept_by unknown v w first second back survive spares unsealed hold = tt
-kept_by no_store v w first second back survive spares unsealed hold = λ m is. let tells = back (w.told m is) in hold m ((spares tells ((hold v.seen tells))).fewer m is)
-kept_by (store_in alone file id changes flight) v w first second back survive spares unsealed hold = λ m is. (
-  λ lone other within not_this. holds_now v w _ (unsealed other within (λ o has. (hold o has).0 lone other within not_this)) m is,
-  ⊎_elim
-      (λ old. inl (holds_now v w _ (survive file id changes old) m is))
-      (λ new. inr (holds_now v w _ (survive file id (changes ++ flight) new) m is))
-      (which v alone file id changes flight first second (back (w.told m is)) hold),
-)
-
-abbrev pub Finds : View → ℕ → StoreId → List Change → Type 0
-Finds v found named has = (file : ℕ) (id : StoreId) (changes : List Change) → Now v (HasStore 0 1 file id changes) → Tells v → (found ≡ file) × (named ≡ id) × (has ≡ changes)
-
--- what is opened is what was known
-pub found : (files : KnownFiles) (v : View) (cluster : OpenCluster) → IsSettled v 0 → IsSettled v 1 → Tells v → IsNewest v.seen cluster.file → Finds v cluster.file cluster.id cluster.changes
-    → FilesHold files v → IsAsKnown files cluster
-found unknown v cluster first second tells newest finds hold = tt
-found no_store v cluster first second tells newest finds hold = hold v.seen tells cluster.file newest.one_of_two newest.sealed
-found (store_in alone file id changes flight) v cluster first second tells newest finds hold = ⊎_elim
-    (λ old. let is = finds file id changes old tells in (is.0, is.1, inl is.2))
-    (λ new. let is = finds file id (changes ++ flight) new tells in (is.0, is.1, inr is.2))
-    (which v alone file id changes flight first second tells hold)
-
-abbrev Whole : View → NewestFault → Type 0
-Whole v fault = (file : ℕ) (id : StoreId) (changes : List Change) → Now v (HasStore 0 1 file id changes) → Tells v → (fault ≡ newest.Failed) ⊎ (fault ≡ newest.NoMemory)
-
--- where a store is known there is one
-known_found : (files : KnownFiles) (v : View) (fault : NewestFault) (answer : Answer) → IsSettled v 0 → IsSettled v 1 → Tells v → Whole v fault
-    → (fault ≡ newest.Failed → ⊥) → (fault ≡ newest.NoMemory → ⊥) → (FilesHold no_store v → answer ≡ answered.Refused refusals.NotCreated) → FilesHold files v → MayLack files answer
-known_found unknown v fault answer first second tells whole not nor lacks hold = tt
-known_found no_store v fault answer first second tells whole not nor lacks hold = lacks hold
-known_found (store_in alone file id changes flight) v fault answer first second tells whole not nor lacks hold = absurd (⊎_elim not nor (⊎_elim
-    (λ old. whole file id changes old tells)
-    (λ new. whole file id (changes ++ flight) new tells)
-    (which v alone file id changes flight first second tells hold)))
-
--- a file that is damaged is sealed
-damaged_sealed : (m : Image) (file offset : ℕ) → IsDamagedIn m 0 1 file offset → IsSealed (m file)
-damaged_sealed m file offset is = ⊎_elim (λ header. header.0.sealed) (λ rest. rest.1.sealed) is.first
-
-refused_as : (answer : Answer) (refusal other : Refusal) → answer ≡ answered.Refused refusal → Some refusal ≡ Some other → answer ≡ answered.Refused other
-refused_as answer refusal other is why = let same : refusal ≡ other = cc in is ∙ ap (λ (r : Refusal). answered.Refused r) same
-
-module _ (hosts : List (List ℕ)) (v m w : View) (state : State) (at : IsInState Closed v state) (first : IsSettled v 0) (second : IsSettled v 1) (back : Tells m → Tells v) (survive : Survive v m) (spares : Spares v m)
-    (unsealed : StaysUnsealed v m) (fewer : Fewer m w) (on : Later v w) where
-  stay : FilesHold (known hosts v w state at on) w
-  stay = files_fewer (known hosts v w state at on) m w fewer (kept_by (known hosts v w state at on) v m first second back survive spares unsealed (were_known hosts v w state at on))
-
-  -- memory ran out
-  pub broken_recover : (host : List ℕ) → Onward v w → IsBrokenOff hosts state (Recover host) w
-  broken_recover host same =
-      broken hosts v w state at on (Recover host) (known hosts v w state at on) stay
-      (not_done (counts Closed v w state at false (closed (known hosts v w state at on)) on.faults (same_count v w same)) (sym (closed_with hosts v w state at on)))
-
-  module _ (host : List ℕ) (answer : Answer) (has : Contains hosts host) where
-    refused_with : (refusal : Refusal) → answer ≡ answered.Refused refusal → RestartCount (restarts_at (answered.Refused refusal)) v.restarts w.restarts
-        → ClosedStep hosts state (known hosts v w state at on) (Recover host) answer (begun state.tells (known hosts v w state at on) w.faults w.restarts) → IsCarriedOut hosts state (Recover host) answer Closed w
-    refused_with refusal is count step =
-        carried hosts v w state at on (Recover host) answer (known hosts v w state at on) (subst (λ (a : Answer). RestartCount (restarts_at a) v.restarts w.restarts) (sym is) count) stay step
-
-    -- it is refused
-    pub refused_recover : (fault : NewestFault) (refusal : Refusal) → IsOneMore v.restarts w.restarts → Some refusal ≡ refusal_for fault host → answer ≡ answered.Refused refusal
-        → (fault ≡ newest.Failed → Rose v.faults w.faults) → Whole v fault
-        → ((file offset : ℕ) → fault ≡ newest.Damaged file offset → Tells v → IsDamagedIn v.seen 0 1 file offset)
-        → IsCarriedOut hosts state (Recover host) answer Closed w
-    refused_recover newest.NoStore refusal count why is is_risen whole damaged =
-        refused_with refusals.NotCreated (refused_as answer refusal _ is why) count
-        (inr (inr (inr (
-          has,
-          (λ tells. known_found (known hosts v w state at on) v newest.NoStore answer first second (at.tells tells) whole (λ e. cc) (λ e. cc) (λ lacks. refused_as answer refusal _ is why) (were_known hosts v w state at on)),
-          inl (refused_as answer refusal _ is why),
-          refl,
-        ))))
-    refused_recover (newest.Damaged file offset) refusal count why is is_risen whole damaged =
-        refused_with (refusals.Damaged host 0 file offset) (refused_as answer refusal _ is why) count
-        (inr (inr (inr (
-          has,
-          (λ tells. known_found (known hosts v w state at on) v (newest.Damaged file offset) answer first second (at.tells tells) whole (λ e. cc) (λ e. cc)
-              (λ lacks. let is_damaged = damaged file offset refl (at.tells tells) in absurd (lacks v.seen (at.tells tells) file is_damaged.one_of_two (damaged_sealed v.seen file offset is_damaged)))
-              (were_known hosts v w state at on)),
-          inr (file, offset, refused_as answer refusal _ is why),
-          refl,
-        ))))
-    refused_recover newest.Failed refusal count why is is_risen whole damaged =
-        refused_with (refusals.Fault host) (refused_as answer refusal _ is why) count
-        (inr (inr (inl (has, refused_as answer refusal _ is why, rose Closed v w state at (is_risen refl), refl))))
-    refused_recover newest.NoMemory refusal count why is is_risen whole damaged = absurd cc
-
--- a store was found, and is opened
-pub opened_recover : (hosts : List (List ℕ)) (v w : View) (state : State) → IsInState Closed v state → IsSettled v 0 → IsSettled v 1 → Onward v w → (host : List ℕ) (answer : Answer) (cluster : Opened) (changes : List Change)
-    → Contains hosts host → answer ≡ answered.Recovered 1 host 1 → cluster.host ≡ host → cluster.flight ≡ None → (Tells v → IsNewest v.seen cluster.store.file)
-    → Finds v cluster.store.file cluster.store.id changes → HasChanges cluster w changes → IsCarriedOut hosts state (Recover host) answer (Open cluster) w
-opened_recover hosts v w state at first second same host answer cluster changes has is named sound newest finds on_disk =
-    let on = later_onward v w same in
-    let stage : stage_of cluster changes ≡ opened (cluster_of cluster changes) = ap (λ (f : Option Mutation). stage_with (cluster_of cluster changes) f) sound in
-    carried_open hosts v w state at on (Recover host) answer cluster changes (subst (λ (a : Answer). RestartCount (restarts_at a) v.restarts w.restarts) (sym is) (same_count v w same)) on_disk
-    (inl (
-      has,
-      is,
-      cluster_of cluster changes,
-      named,
-      (λ tells. found (known hosts v w state at on) v (cluster_of cluster changes) first second (at.tells tells) (newest (at.tells tells)) finds (were_known hosts v w state at on)),
-      stage,
-    ))
-
--- ---- the same, where the code's cluster is known to be closed
-
-pub from_closed : (cluster : Cluster) (v : View) (state : State) → cluster ≡ Closed → IsInState cluster v state → IsInState Closed v state
-from_closed cluster v state shut at = subst (λ (c : Cluster). IsInState c v state) shut at
-
-pub to_closed : (hosts : List (List ℕ)) (state : State) (command : Command) (answer : Answer) (cluster : Cluster) (w : View) → cluster ≡ Closed
-    → IsCarriedOut hosts state command answer Closed w → IsCarriedOut hosts state command answer cluster w
-to_closed hosts state command answer cluster w shut is = subst (λ (c : Cluster). IsCarriedOut hosts state command answer c w) (sym shut) is
-
-pub settled_closed : (cluster : Cluster) (v : View) → cluster ≡ Closed → IsReady cluster v → IsSettled v 0 × IsSettled v 1
-settled_closed cluster v shut ready = subst (λ (c : Cluster). IsReady c v) shut ready
-
--- calls, and then a restart
-pub restarted_after : (a b c : View) → Onward a b → Later b c → Later a c
-restarted_after a b c first second = later_joined a b c (later_onward a b first) second
-
-pub count_after : (a b c : View) → Onward a b → IsOneMore b.restarts c.restarts → IsOneMore a.restarts c.restarts
-count_after a b c first rose = subst (λ (n : ℕ). IsOneMore n c.restarts) first.restarts rose
-
-pub rose_later : (a b c : View) → Rose a.faults b.faults → Later b c → Rose a.faults c.faults
-rose_later a b c rose second = λ below. let more = second.faults in let before = rose (omega (arith, more, below)) in omega (arith, more, before)
-
--- a cluster that was just made
-pub made_stage : (cluster : Opened) (host : List ℕ) → cluster.host ≡ host → cluster.store.file ≡ 0 → cluster.store.id ≡ first_store → cluster.flight ≡ None
-    → stage_of cluster [] ≡ opened (made_at host)
-made_stage cluster host named file id sound =
-    ap (λ (f : Option Mutation). stage_with (cluster_of cluster []) f) sound
-    ∙ ap (λ (h : List ℕ). opened (record { host = h; file = cluster.store.file; id = cluster.store.id; changes = [] })) named
-    ∙ ap (λ (f : ℕ). opened (record { host = host; file = f; id = cluster.store.id; changes = [] })) file
-    ∙ ap (λ (i : StoreId). opened (record { host = host; file = 0; id = i; changes = [] })) id
-
--- a cluster of what was loaded
-pub opened_on_disk : (cluster : Opened) (store : Store) (mutations : List Mutation) (v : View) → cluster.store ≡ store → AgreesWith (changes_of mutations) cluster.contents → cluster.flight ≡ None
-    → IsOpened v 0 1 store mutations → HasChanges cluster v (changes_of mutations)
-opened_on_disk cluster store mutations v same agrees sound is = record {
-  mutations = mutations;
-  are = refl;
-  stored = kept_sound cluster.store mutations cluster.flight v sound (subst (λ (s : Store). IsOpened v 0 1 s mutations) (sym same) is);
-  agrees = agrees;
-}
-
-pub finds_as : (v : View) (cluster : Opened) (store : Store) (has : List Change) → cluster.store ≡ store → Finds v store.file store.id has → Finds v cluster.store.file cluster.store.id has
-finds_as v cluster store has same finds = λ file id changes now tells.
-    let is = finds file id changes now tells in
-    (ap (λ (s : Store). s.file) same ∙ is.0, ap (λ (s : Store). s.id) same ∙ is.1, is.2)
-
-pub newest_as : (v : View) (cluster : Opened) (store : Store) → cluster.store ≡ store → (Tells v → IsNewest v.seen store.file) → Tells v → IsNewest v.seen cluster.store.file
-newest_as v cluster store same is = λ tells. subst (λ (s : Store). IsNewest v.seen s.file) (sym same) (is tells)
+  pub made_create : (host : List ℕ) (answer : Answer) → Contains hosts host → answer ≡ answered.Created host → seen ≡ made_at host → IsCarriedOut view hosts state (Create host) answer (Open open_)
+  made_create host answer has is made = carried_open (Create host) answer (ap restarts_at is) (inl (has, is, ap opened made))
 
 -- ---- while a cluster is open
-
--- what an open cluster does at its stage
-open_stage : (hosts : List (List ℕ)) (cluster : OpenCluster) (flight : Option Mutation) (stage : Stage) (old : State) (command : Command) (answer : Answer) (new : State) → stage ≡ stage_with cluster flight
-    → OpenStep old cluster command answer new → StageStep hosts stage old command answer new
-open_stage hosts cluster None stage old command answer new is step = subst (λ (s : Stage). StageStep hosts s old command answer new) (sym is) step
-open_stage hosts cluster (Some mutation) stage old command answer new is step = subst (λ (s : Stage). StageStep hosts s old command answer new) (sym is) step
 
 -- a state by its parts
 state_is : (state : State) (stage : Stage) (faults restarts : ℕ) → state.stage ≡ stage → state.faults ≡ faults → state.restarts ≡ restarts
@@ -331,63 +165,113 @@ state_is state stage faults restarts same_stage same_faults same_restarts =
     ∙ ap (λ (n : ℕ). record { stage = stage; faults = n; restarts = state.restarts; tells = state.tells }) same_faults
     ∙ ap (λ (n : ℕ). record { stage = stage; faults = faults; restarts = n; tells = state.tells }) same_restarts
 
-module _ (hosts : List (List ℕ)) (cluster : Opened) (v w : View) (state : State) (at : IsInState (Open cluster) v state) where
-  here : state ≡ state_of cluster at.stage.0 v state.tells
-  here = state_is state (stage_of cluster at.stage.0) v.faults v.restarts at.stage.2 at.faults at.restarts
+-- the cluster that the code has
+pub seen_then : {D : Type 0} (open_ : Opened D) (stage : Stage) → IsStage (Open open_) stage → (seen : OpenCluster) × (stage ≡ opened seen) × IsClusterOf open_ seen
+seen_then open_ (closed files) is = absurd is
+seen_then open_ (opened seen) is = (seen, refl, is)
 
-  pub stopped : (answer : Answer) → Later v w → IsOneMore v.restarts w.restarts → Fewer v w → answer ≡ answered.Stopped → IsCarriedOut hosts state Stop answer Closed w
-  stopped answer on count fewer is = record {
-    new = begun state.tells (files_at state.stage) w.faults w.restarts;
-    at = at_closed w (files_at state.stage) state.tells (λ does. on.tells (at.tells does)) (files_fewer (files_at state.stage) v w fewer at.files);
+module _ {D : Type 0} (hosts : List (List ℕ)) (view : D → View) (old : Opened D) (state : State) (at : IsInState view (Open old) state) where
+  abbrev before : OpenCluster
+  before = (seen_then old state.stage at.stage).0
+
+  abbrev first_view : View
+  first_view = lane_view view (disks_in old)
+
+  here : state ≡ state_of before first_view state.tells
+  here = state_is state (opened before) first_view.faults first_view.restarts (seen_then old state.stage at.stage).1 at.faults at.restarts
+
+  open_stage : (command : Command) (answer : Answer) (new : State) → OpenStep state before command answer new → StageStep hosts state.stage state command answer new
+  open_stage command answer new step = subst (λ (s : Stage). StageStep hosts s state command answer new) (sym (seen_then old state.stage at.stage).1) step
+
+  pub stopped : (new : Cluster D) (answer : Answer) → IsClosed new → Later first_view (lane_view view (lane_of new)) → IsOneMore first_view.restarts (lane_view view (lane_of new)).restarts → Fewer first_view (lane_view view (lane_of new)) → answer ≡ answered.Stopped
+      → IsCarriedOut view hosts state Stop answer new
+  stopped new answer shut on count fewer is = record {
+    new = begun state.tells (files_at state.stage) (lane_view view (lane_of new)).faults (lane_view view (lane_of new)).restarts;
+    at = at_closed view new (files_at state.stage) state.tells shut (λ does. on.tells (at.tells does)) (files_fewer (files_at state.stage) first_view (lane_view view (lane_of new)) fewer at.files);
     step = (
-      counts (Open cluster) v w state at (restarts_at answer) (closed (files_at state.stage)) on.faults (subst (λ (a : Answer). RestartCount (restarts_at a) v.restarts w.restarts) (sym is) count),
-      open_stage hosts (cluster_of cluster at.stage.0) cluster.flight state.stage state Stop answer _ at.stage.2 (is, refl),
+      counts view (Open old) (lane_view view (lane_of new)) state at (restarts_at answer) (closed (files_at state.stage)) on.faults (subst (λ (a : Answer). RestartCount (restarts_at a) first_view.restarts (lane_view view (lane_of new)).restarts) (sym is) count),
+      open_stage Stop answer _ (is, refl),
     );
   }
 
-  pub dumped : (answer : Answer) → v ≡ w → ((changes : List Change) → AgreesWith changes cluster.contents → IsDump (cluster_of cluster changes) answer) → IsCarriedOut hosts state Dump answer (Open cluster) w
-  dumped answer same shows = let is = shows at.stage.0 at.stage.1.agrees in record {
+  -- nothing has changed
+  pub unchanged : (command : Command) (answer : Answer) → restarts_at answer ≡ false → OpenStep state before command answer state → IsCarriedOut view hosts state command answer (Open old)
+  unchanged command answer stays step = record {
     new = state;
-    at = subst (λ (u : View). IsInState (Open cluster) u state) same at;
+    at = at;
     step = (
-      record { faults = omega arith; restarts = subst (λ (a : Answer). RestartCount (restarts_at a) state.restarts state.restarts) (sym is.2) refl; tells = refl },
-      open_stage hosts (cluster_of cluster at.stage.0) cluster.flight state.stage state Dump answer state at.stage.2 (is, refl),
+      record { faults = omega arith; restarts = subst (λ (b : Bool). RestartCount b state.restarts state.restarts) (sym stays) refl; tells = refl },
+      open_stage command answer state step,
     );
   }
 
-  stepped_to : (events : List Event) (answer : Answer) (new : Opened) (after : List Change) → Onward v w → HasChanges new w after → IsStepped (state_of cluster at.stage.0 v state.tells) events answer (state_of new after w state.tells)
-      → IsCarriedOut hosts state (Steps events) answer (Open new) w
-  stepped_to events answer new after on has step = record {
-    new = state_of new after w state.tells;
-    at = at_open new w after state.tells has (λ does. on.tells (at.tells does));
-    step = (
-      counts (Open cluster) v w state at (restarts_at answer) (stage_of new after) on.faults (subst (λ (a : Answer). RestartCount (restarts_at a) v.restarts w.restarts) (sym step.2) (same_count v w on)),
-      open_stage hosts (cluster_of cluster at.stage.0) cluster.flight state.stage state (Steps events) answer _ at.stage.2
-          (subst (λ (s : State). IsStepped s events answer (state_of new after w state.tells)) (sym here) step),
-    );
+  pub dumped : (answer : Answer) → ((seen : OpenCluster) → IsClusterOf old seen → IsDump seen answer) → IsCarriedOut view hosts state Dump answer (Open old)
+  dumped answer shows = let is = shows before (seen_then old state.stage at.stage).2 in unchanged Dump answer (ap restarts_at is.2) (is, refl)
+
+  module _ (new : Opened D) (on : Onward first_view (lane_view view (disks_in new))) (stored : (seen : OpenCluster) → IsClusterOf new seen → FilesHold (store_in (known_of seen)) (lane_view view (disks_in new))) where
+    stepped_to : (events : List Event) (answer : Answer) (after : OpenCluster) → IsClusterOf new after → IsStepped (state_of before first_view state.tells) events answer (state_of after (lane_view view (disks_in new)) state.tells)
+        → IsCarriedOut view hosts state (Steps events) answer (Open new)
+    stepped_to events answer after is step = record {
+      new = state_of after (lane_view view (disks_in new)) state.tells;
+      at = at_open view new after state.tells is (λ does. on.tells (at.tells does)) (stored after is);
+      step = (
+        counts view (Open old) (lane_view view (disks_in new)) state at (restarts_at answer) (opened after) on.faults (subst (λ (a : Answer). RestartCount (restarts_at a) first_view.restarts (lane_view view (disks_in new)).restarts) (sym step.2) on.restarts),
+        open_stage (Steps events) answer _ (subst (λ (s : State). IsStepped s events answer (state_of after (lane_view view (disks_in new)) state.tells)) (sym here) step),
+      );
+    }
+
+    pub stepped : (events : List Event) (answer : Answer) → StateSteps view old new (λ first last. IsStepped first events answer last) → IsCarriedOut view hosts state (Steps events) answer (Open new)
+    stepped events answer is = let s = is.steps state.tells before (seen_then old state.stage at.stage).2 in stepped_to events answer s.0 s.1 s.2
+
+    broken_at : (events : List Event) (after : OpenCluster) → IsClusterOf new after → EventsBreak (state_of before first_view state.tells) events (state_of after (lane_view view (disks_in new)) state.tells) → IsBrokenOff hosts state (Steps events) (lane_view view (disks_in new))
+    broken_at events after is breaks = record {
+      new = state_of after (lane_view view (disks_in new)) state.tells;
+      at_end = record { faults = omega arith; restarts = refl; files = stored after is };
+      breaks = half_stepped events refl (subst (λ (s : State). EventsBreak s events (state_of after (lane_view view (disks_in new)) state.tells)) (sym here) breaks);
+    }
+
+    pub broken_steps : (events : List Event) → StateSteps view old new (λ first last. EventsBreak first events last) → IsBrokenOff hosts state (Steps events) (lane_view view (disks_in new))
+    broken_steps events is = let s = is.steps state.tells before (seen_then old state.stage at.stage).2 in broken_at events s.0 s.1 s.2
+
+-- ---- whichever state it is in
+
+-- a cluster is closed
+pub carries_stop : {D : Type 0} (hosts : List (List ℕ)) (view : D → View) (old : Opened D) (new : Cluster D) → IsClosed new → IsDiskRestarted (lane_view view (disks_in old)) (lane_view view (lane_of new))
+    → Carries view hosts (Open old) Stop answered.Stopped new
+carries_stop hosts view old new shut is = record {
+  step = λ state at. stopped hosts view old state at new answered.Stopped shut is.later is.counted is.images refl;
+  later = is.later;
+}
+
+-- the contents are shown
+pub carries_dump : {D : Type 0} (hosts : List (List ℕ)) (view : D → View) (old : Opened D) (answer : Answer) → ((seen : OpenCluster) → IsClusterOf old seen → IsDump seen answer) → Carries view hosts (Open old) Dump answer (Open old)
+carries_dump hosts view old answer shows = record {
+  step = λ state at. dumped hosts view old state at answer shows;
+  later = later_none _;
+}
+
+-- events are carried out, or broken off
+module _ {D : Type 0} (hosts : List (List ℕ)) (view : D → View) (old new : Opened D) (on : Onward (lane_view view (disks_in old)) (lane_view view (disks_in new)))
+    (stored : (seen : OpenCluster) → IsClusterOf new seen → FilesHold (store_in (known_of seen)) (lane_view view (disks_in new))) (events : List Event) where
+  pub carries_steps : (answer : Answer) → StateSteps view old new (λ first last. IsStepped first events answer last) → Carries view hosts (Open old) (Steps events) answer (Open new)
+  carries_steps answer is = record {
+    step = λ state at. stepped hosts view old state at new on stored events answer is;
+    later = later_onward _ _ on;
   }
 
-  pub stepped : (events : List Event) (answer : Answer) (new : Opened) → Onward v w → StateSteps cluster v new w (λ before after. IsStepped before events answer after) → IsCarriedOut hosts state (Steps events) answer (Open new) w
-  stepped events answer new on is = let s = is.steps state.tells at.stage.0 at.stage.1 in stepped_to events answer new s.0 on s.1 s.2
-
-  broken_at : (events : List Event) (new : Opened) (after : List Change) → HasChanges new w after → EventsBreak (state_of cluster at.stage.0 v state.tells) events (state_of new after w state.tells) → IsBrokenOff hosts state (Steps events) w
-  broken_at events new after has breaks = record {
-    new = state_of new after w state.tells;
-    at_end = record { faults = omega arith; restarts = refl; files = stored new w after has };
-    breaks = half_stepped events refl (subst (λ (s : State). EventsBreak s events (state_of new after w state.tells)) (sym here) breaks);
+  pub breaks_steps : StateSteps view old new (λ first last. EventsBreak first events last) → BreaksOff view hosts (Open old) (Steps events) (Open new)
+  breaks_steps is = record {
+    broken = λ state at. broken_steps hosts view old state at new on stored events is;
+    later = later_onward _ _ on;
   }
 
-  pub broken_steps : (events : List Event) (new : Opened) → StateSteps cluster v new w (λ before after. EventsBreak before events after) → IsBrokenOff hosts state (Steps events) w
-  broken_steps events new is = let s = is.steps state.tells at.stage.0 at.stage.1 in broken_at events new s.0 s.1 s.2
+-- a part of the contents shown as they are after other changes that leave the same
+pub shown_as : (changes others : List Change) (caches shown : Caches) → AreContentsAfter changes caches → AreContentsAfter others caches → AreContentsAfter changes shown → AreContentsAfter others shown
+shown_as changes others caches shown one two is = contents_of_same others changes shown (SameContents-from_one others changes caches two one) is
 
 -- so it is, whichever command it was said of
-pub carried_as : (hosts : List (List ℕ)) (state : State) (command other : Command) (answer : Answer) (cluster : Cluster) (w : View) → command ≡ other → IsCarriedOut hosts state other answer cluster w
-    → IsCarriedOut hosts state command answer cluster w
-carried_as hosts state command other answer cluster w same is = subst (λ (c : Command). IsCarriedOut hosts state c answer cluster w) (sym same) is
+pub carries_as : {D : Type 0} (hosts : List (List ℕ)) (view : D → View) (old : Cluster D) (command other : Command) (answer : Answer) (new : Cluster D) → command ≡ other → Carries view hosts old other answer new → Carries view hosts old command answer new
+carries_as hosts view old command other answer new same is = subst (λ (c : Command). Carries view hosts old c answer new) (sym same) is
 
-pub broken_as : (hosts : List (List ℕ)) (state : State) (command other : Command) (w : View) → command ≡ other → IsBrokenOff hosts state other w → IsBrokenOff hosts state command w
-broken_as hosts state command other w same is = subst (λ (c : Command). IsBrokenOff hosts state c w) (sym same) is
-
--- the cluster that the code has
-pub open_at : (cluster : Cluster) (inside : Opened) (v : View) (state : State) → cluster ≡ Open inside → IsInState cluster v state → IsInState (Open inside) v state
-open_at cluster inside v state same at = subst (λ (c : Cluster). IsInState c v state) same at
+pub breaks_as : {D : Type 0} (hosts : List (List ℕ)) (view : D → View) (old : Cluster D) (command other : Command) (new : Cluster D) → command ≡ other → BreaksOff view hosts old other new → BreaksOff view hosts old command new
+breaks_as hosts view old command other new same is = subst (λ (c : Command). BreaksOff view hosts old c new) (sym same) is

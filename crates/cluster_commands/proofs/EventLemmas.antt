@@ -1,7 +1,5 @@
 -- Events are carried out, or are broken off.
-use Rattle.std.proofs.Common.{◌≡◌, ◌≢◌, ◌⊎◌, inl, inr, ⊎_elim, ℕ, arith, List, [], ◌∷◌, ◌++◌, refl, sym, ◌∙◌, ap, subst, append_assoc, Bool, false, true, Option, Some, None, Result, Ok, Err, IfOk, OnErr}
-use Rattle.std.proofs.lemmas.List.{append-nil}
-use Rattle.std.specs.Prelude.{is_some}
+use Rattle.std.proofs.Common.{◌≡◌, ◌≢◌, ◌⊎◌, inl, inr, ⊎_elim, ℕ, ◌+◌, arith, List, [], ◌∷◌, ◌++◌, length, refl, sym, ◌∙◌, ap, subst, append_assoc, Bool, false, true, Option, Some, None, Result, Ok, Err, IfOk, OnErr}
 use Rattle.fault_count.specs.Rose.{Rose}
 use Rattle.cache_key.specs.declared.request.Mutation.{Mutation}
 use Rattle.cache_key.specs.declared.request.Reply.{Reply}
@@ -11,10 +9,8 @@ use Rattle.cache_key.specs.declared.request.Request.{Request}
 use Rattle.cache_key.specs.declared.request.Request.TheVariants.{Get, Put, Remove, Ensure, Truncate, Destroy, PutAll, Size}
 use Rattle.cache_model.specs.Parts.{HasPart, joined_reply}
 use Rattle.cache_model.proofs.PartsLemmas.{one_part, no_part, joined_alone}
-use Rattle.partition_map.specs.After.{AgreesWith}
 use Rattle.cache_model.specs.PlainList.{HasPairs}
-use Rattle.cache_model.specs.Change.{Change}
-use Rattle.cache_model.specs.Reply.{mutation_of, reply_after, changes_in, changes_asked}
+use Rattle.cache_model.specs.Reply.{mutation_of, reply_after}
 use Rattle.disk_trait.specs.View.{View}
 use Rattle.disk_trait.specs.Moments.{Onward}
 use Rattle.disk_trait.proofs.Runs.{onward_none}
@@ -22,126 +18,18 @@ use Rattle.script_lines.specs.declared.command.Event.{Event}
 use Rattle.script_lines.specs.declared.command.Event.TheVariants.{Call}
 use Rattle.script_lines.specs.declared.answer.Answer.TheVariants as answers
 use Rattle.script_lines.specs.declared.answer.Outcome.{Outcome}
-use Rattle.script_lines.specs.declared.answer.Outcome.TheVariants.{Replied, Refused}
+use Rattle.script_lines.specs.declared.answer.Outcome.TheVariants.{Replied, Renewed, Refused}
 use Rattle.script_lines.specs.declared.answer.Refusal.{Refusal}
-use Rattle.script_lines.specs.declared.answer.Refusal.TheVariants as refusals
-use Rattle.cluster_commands.specs.State.{OpenCluster, Stage, closed, opened, failing, changed, State, Counts, CallChange, PartStep, GoesOn, PartsChange, EventStep, EventRun, IsStepped}
-use Rattle.cluster_commands.specs.Breaks.{IsInFlight, PartBreaks, PartsBreak, EventBreaks, NextBreaks, EventsBreak}
-use Rattle.cluster_commands.specs.OnDisk.{cluster_of, stage_with, stage_of, state_of, HasChanges, IsStage, StateSteps}
-use Rattle.cluster_commands.specs.declared.cluster.Cluster.TheVariants.{Open}
+use Rattle.cluster_commands.specs.Breaks.{EventLeaves, CallBreaks, PartBreaks, PartsBreak, EventBreaks, NextBreaks, EventsBreak}
+use Rattle.cluster_commands.specs.Commands.{IsStepped}
+use Rattle.cluster_commands.specs.Events.{AskedComesTo, CallChange, PartStep, GoesOn, PartsChange, EventChange, BothOpen, EventStep, EventRun}
+use Rattle.cluster_commands.specs.OnDisk.{disks_in, lane_view, IsClusterOf, state_of, StateSteps}
+use Rattle.cluster_commands.specs.State.{OpenCluster, Stage, closed, opened, State, Counts}
 use Rattle.cluster_commands.specs.declared.cluster.Opened.{Opened}
 
--- ---- one request
-
 -- no restart came between
-pub counts_on : (old new : Opened) (before after : List Change) (v w : View) (tells : Bool) → Onward v w → Counts false (state_of old before v tells) (state_of new after w tells)
-counts_on old new before after v w tells on = record { faults = on.faults; restarts = on.restarts; tells = refl }
-
--- a mutation's request changes something
-asks : (request : Request) (change : Change) → changes_asked request ≡ change ∷ [] → changes_asked request ≢ []
-asks request change is none = cc
-
-module _ (old new : Opened) (before after : List Change) (v w : View) (tells : Bool) (request : Request) (on : Onward v w) where
-  -- nothing is in flight before
-  at_sound : (outcome : Outcome) → old.flight ≡ None → CallChange (opened (cluster_of old before)) request outcome (stage_of new after) (Rose v.faults w.faults)
-      → PartStep (state_of old before v tells) request outcome (state_of new after w tells)
-  at_sound outcome sound is =
-      (counts_on old new before after v w tells on, subst (λ (f : Option Mutation). CallChange (stage_with (cluster_of old before) f) request outcome (stage_of new after) (Rose v.faults w.faults)) (sym sound) is)
-
-  replied_at : (change : Change) (reply : Reply) → old.flight ≡ None → changes_asked request ≡ change ∷ [] → reply ≡ reply_after before request
-      → opened (changed (cluster_of old before) (change ∷ [])) ≡ stage_of new after → PartStep (state_of old before v tells) request (Replied reply) (state_of new after w tells)
-  replied_at change reply sound asked is entered =
-      at_sound (Replied reply) sound (is, sym entered ∙ ap (λ (cs : List Change). opened (changed (cluster_of old before) cs)) (sym asked))
-
-  failed_at : (change : Change) (refusal : Refusal) → old.flight ≡ None → changes_asked request ≡ change ∷ [] → refusal ≡ refusals.Fault old.host → Rose v.faults w.faults
-      → failing (cluster_of old before) (change ∷ []) ≡ stage_of new after → PartStep (state_of old before v tells) request (Refused refusal) (state_of new after w tells)
-  failed_at change refusal sound asked is rose stage =
-      at_sound (Refused refusal) sound (is, rose, asks request change asked, sym stage ∙ ap (λ (cs : List Change). failing (cluster_of old before) cs) (sym asked))
-
-  in_flight : (flight : Option Mutation) (change : Change) → flight ≡ None → changes_asked request ≡ change ∷ [] → failing (cluster_of old before) (change ∷ []) ≡ stage_of new after
-      → IsInFlight (stage_with (cluster_of old before) flight) request (stage_of new after)
-  in_flight None change sound asked stage = (asks request change asked, sym stage ∙ ap (λ (cs : List Change). failing (cluster_of old before) cs) (sym asked))
-  in_flight (Some mutation) change sound asked stage = absurd cc
-
--- the commit of a request's change
-module _ (old new : Opened) (v w : View) (request : Request) (change : Change) (on : Onward v w) (sound : old.flight ≡ None) (asked : changes_asked request ≡ change ∷ []) where
-  -- the mutation is durable
-  pub replied : (reply : Reply) → ((changes : List Change) → AgreesWith changes old.contents → reply ≡ reply_after changes request)
-      → ((changes : List Change) → HasChanges old v changes → IsStage (Open new) w (opened (changed (cluster_of old changes) (change ∷ []))))
-      → StateSteps old v new w (λ before after. PartStep before request (Replied reply) after)
-  replied reply is entered = record {
-    steps = λ tells before has. let e = entered before has in
-        (e.0, e.1, replied_at old new before e.0 v w tells request on change reply sound asked (is before has.agrees) e.2);
-  }
-
-  -- the disk failed under it
-  pub failed : (refusal : Refusal) → refusal ≡ refusals.Fault old.host → Rose v.faults w.faults
-      → ((changes : List Change) → HasChanges old v changes → IsStage (Open new) w (failing (cluster_of old changes) (change ∷ [])))
-      → StateSteps old v new w (λ before after. PartStep before request (Refused refusal) after)
-  failed refusal is rose flies = record {
-    steps = λ tells before has. let e = flies before has in
-        (e.0, e.1, failed_at old new before e.0 v w tells request on change refusal sound asked is rose e.2);
-  }
-
-  breaks_flying : (tells : Bool) (before : List Change) → IsStage (Open new) w (failing (cluster_of old before) (change ∷ []))
-      → (after : List Change) × HasChanges new w after × PartBreaks (state_of old before v tells) request (state_of new after w tells)
-  breaks_flying tells before e = (e.0, e.1, (counts_on old new before e.0 v w tells on, inr (in_flight old new before e.0 v w tells request on old.flight change sound asked e.2)))
-
-  breaks_still : (tells : Bool) (before : List Change) → IsStage (Open new) w (stage_of old before)
-      → (after : List Change) × HasChanges new w after × PartBreaks (state_of old before v tells) request (state_of new after w tells)
-  breaks_still tells before e = (e.0, e.1, (counts_on old new before e.0 v w tells on, inl (sym e.2)))
-
-  -- memory ran out in the commit
-  pub broken : ((changes : List Change) → HasChanges old v changes → IsStage (Open new) w (stage_of old changes) ⊎ IsStage (Open new) w (failing (cluster_of old changes) (change ∷ [])))
-      → StateSteps old v new w (λ before after. PartBreaks before request after)
-  broken stage = record { steps = λ tells before has. ⊎_elim (breaks_still tells before) (breaks_flying tells before) (stage before has) }
-
-  -- memory ran out after the disk failed under it
-  pub broken_flying : ((changes : List Change) → HasChanges old v changes → IsStage (Open new) w (failing (cluster_of old changes) (change ∷ [])))
-      → StateSteps old v new w (λ before after. PartBreaks before request after)
-  broken_flying flies = record { steps = λ tells before has. breaks_flying tells before (flies before has) }
-
--- nothing was done
-pub not_begun : (old : Opened) (v : View) (request : Request) → StateSteps old v old v (λ before after. PartBreaks before request after)
-not_begun old v request = record { steps = λ tells before has. (before, has, (counts_on old old before before v v tells (onward_none v), inl refl)) }
-
--- a request that changes nothing is answered from memory
-unasked : (cluster : OpenCluster) (flight : Option Mutation) (request : Request) (reply : Reply) (fault : Type 0) → mutation_of request ≡ None → reply ≡ reply_after cluster.changes request
-    → CallChange (stage_with cluster flight) request (Replied reply) (stage_with cluster flight) fault
-unasked cluster None request reply fault none is =
-    let asked : changes_asked request ≡ [] = ap changes_in none in
-    (is, ap (λ (cs : List Change). opened (record { host = cluster.host; file = cluster.file; id = cluster.id; changes = cs })) (sym (ap (λ (cs : List Change). cluster.changes ++ cs) asked ∙ append-nil cluster.changes)))
-unasked cluster (Some mutation) request reply fault none is = (is, ap changes_in none, refl)
-
-pub answered : (old : Opened) (v : View) (request : Request) (reply : Reply) → None ≡ mutation_of request → ((changes : List Change) → AgreesWith changes old.contents → reply ≡ reply_after changes request)
-    → StateSteps old v old v (λ before after. PartStep before request (Replied reply) after)
-answered old v request reply none is = record {
-  steps = λ tells before has.
-      (before, has, (counts_on old old before before v v tells (onward_none v), unasked (cluster_of old before) old.flight request reply _ (sym none) (is before has.agrees)));
-}
-
-some_asked : (mutation : Option Mutation) → is_some mutation ≡ true → changes_in mutation ≢ []
-some_asked None is none = cc
-some_asked (Some mutation) is none = cc
-
-refused : (cluster : OpenCluster) (flight : Option Mutation) (request : Request) (fault : Type 0) → is_some flight ≡ true → is_some (mutation_of request) ≡ true
-    → CallChange (stage_with cluster flight) request (Refused refusals.Closed) (stage_with cluster flight) fault
-refused cluster None request fault flies is = absurd cc
-refused cluster (Some mutation) request fault flies is = (refl, some_asked (mutation_of request) is, refl)
-
--- changes are in flight, and no other is made
-pub shut : (old : Opened) (v : View) (request : Request) (outcome : Outcome) → outcome ≡ Refused refusals.Closed → is_some old.flight ≡ true → is_some (mutation_of request) ≡ true
-    → StateSteps old v old v (λ before after. PartStep before request outcome after)
-shut old v request outcome answer flies is = record {
-  steps = λ tells before has. (
-    before,
-    has,
-    (
-      counts_on old old before before v v tells (onward_none v),
-      subst (λ (o : Outcome). CallChange (stage_of old before) request o (stage_of old before) (Rose v.faults v.faults)) (sym answer) (refused (cluster_of old before) old.flight request _ flies is),
-    ),
-  );
-}
+pub counts_on : (before after : OpenCluster) (v w : View) (tells : Bool) → Onward v w → Counts false (state_of before v tells) (state_of after w tells)
+counts_on before after v w tells on = record { faults = on.faults; restarts = on.restarts; tells = refl }
 
 -- ---- the one part
 
@@ -149,40 +37,63 @@ some_is : (found mutation : Mutation) → Some found ≡ Some mutation → found
 some_is found mutation is = cc
 
 -- what is replied is a reply of the model
-replied_as : (stage new : Stage) (request : Request) (reply : Reply) (fault : Type 0) → CallChange stage request (Replied reply) new fault → reply ≡ joined_reply request (reply ∷ [])
-replied_as (closed files) new request reply fault is = absurd is
-replied_as (opened cluster) new request reply fault is = subst (λ (r : Reply). r ≡ joined_reply request (r ∷ [])) (sym is.0) (sym (joined_alone cluster.changes request))
-replied_as (failing cluster flight) new request reply fault is = subst (λ (r : Reply). r ≡ joined_reply request (r ∷ [])) (sym is.0) (sym (joined_alone cluster.changes request))
+replied_as : (asked : Option Mutation) (old new : OpenCluster) (request : Request) (reply : Reply) (fault : Type 0) → AskedComesTo asked old request (Replied reply) new fault → reply ≡ reply_after old.changes request
+replied_as None old new request reply fault is = is.1
+replied_as (Some mutation) old new request reply fault is = is.2.1
 
-alone_goes_on : (stage new : Stage) (request : Request) (outcome : Outcome) (fault : Type 0) → CallChange stage request outcome new fault
+joined_as : (old new : OpenCluster) (request : Request) (reply : Reply) (fault : Type 0) → CallChange old request (Replied reply) new fault → reply ≡ joined_reply request (reply ∷ [])
+joined_as old new request reply fault is =
+    subst (λ (r : Reply). r ≡ joined_reply request (r ∷ [])) (sym (replied_as (mutation_of request) old new request reply fault is)) (sym (joined_alone old.changes request))
+
+-- a call doesn't come to a renewal
+not_renewed : (asked : Option Mutation) (old new : OpenCluster) (request : Request) (partition : ℕ) (id : _) (fault : Type 0) → AskedComesTo asked old request (Renewed partition id) new fault → ⊥
+not_renewed None old new request partition id fault is = is
+not_renewed (Some mutation) old new request partition id fault is = is.2
+
+alone_goes_on : (old new : OpenCluster) (request : Request) (outcome : Outcome) (fault : Type 0) → CallChange old request outcome new fault
     → GoesOn outcome new outcome new (λ reply. PartsChange new request [] ([] ++ reply ∷ []) outcome new fault)
-alone_goes_on stage new request (Replied reply) fault is = (ap (λ (r : Reply). Replied r) (replied_as stage new request reply fault is), refl)
-alone_goes_on stage new request (Refused refusal) fault is = (refl, refl)
+alone_goes_on old new request (Replied reply) fault is = (ap (λ (r : Reply). Replied r) (joined_as old new request reply fault is), refl)
+alone_goes_on old new request (Refused refusal) fault is = (refl, refl)
+alone_goes_on old new request (Renewed partition id) fault is = not_renewed (mutation_of request) old new request partition id fault is
 
 -- the part is the whole request
+whole_change : (old new : OpenCluster) (request : Request) (outcome : Outcome) (fault : Type 0) → HasPart request → CallChange old request outcome new fault → EventChange old (Call request) outcome new fault
+whole_change old new request outcome fault some is =
+    subst (λ (parts : List (ℕ × Request)). PartsChange old request parts [] outcome new fault) (sym (one_part request some)) (outcome, new, is, alone_goes_on old new request outcome fault is)
+
+whole_leaves : (old new : OpenCluster) (request : Request) (fault : Type 0) → HasPart request → CallBreaks request old new → EventLeaves old (Call request) new fault
+whole_leaves old new request fault some is = subst (λ (parts : List (ℕ × Request)). PartsBreak old parts new fault) (sym (one_part request some)) (inl is)
+
+-- the same between stages
+both_as : (old new : Stage) (P Q : OpenCluster → OpenCluster → Type 0) → ((a b : OpenCluster) → P a b → Q a b) → BothOpen old new P → BothOpen old new Q
+both_as (opened a) (opened b) P Q goes is = goes a b is
+both_as (opened a) (closed files) P Q goes is = is
+both_as (closed files) new P Q goes is = is
+
 pub whole_step : (old new : State) (request : Request) (outcome : Outcome) → HasPart request → PartStep old request outcome new → EventStep old (Call request) outcome new
 whole_step old new request outcome some is = (
   is.0,
-  subst (λ (parts : List (ℕ × Request)). PartsChange old.stage request parts [] outcome new.stage (Rose old.faults new.faults)) (sym (one_part request some))
-      (outcome, new.stage, is.1, alone_goes_on old.stage new.stage request outcome (Rose old.faults new.faults) is.1),
+  both_as old.stage new.stage (λ before after. CallChange before request outcome after (Rose old.faults new.faults)) (λ before after. EventChange before (Call request) outcome after (Rose old.faults new.faults))
+      (λ a b change. whole_change a b request outcome (Rose old.faults new.faults) some change) is.1,
 )
 
 pub whole_breaks : (old new : State) (request : Request) → HasPart request → PartBreaks old request new → EventBreaks old (Call request) new
 whole_breaks old new request some is = (
   is.0,
-  subst (λ (parts : List (ℕ × Request)). PartsBreak old.stage parts new.stage (Rose old.faults new.faults)) (sym (one_part request some)) (⊎_elim (λ same. inl same) (λ flies. inr (inl flies)) is.1),
+  both_as old.stage new.stage (CallBreaks request) (λ before after. EventLeaves before (Call request) after (Rose old.faults new.faults))
+      (λ a b breaks. whole_leaves a b request (Rose old.faults new.faults) some breaks) is.1,
 )
 
 -- no partition has a part
-pub nothing_asked : (old : Opened) (v : View) (request : Request) (cache : List ℕ) → request ≡ PutAll cache []
-    → StateSteps old v old v (λ before after. EventStep before (Call request) (Replied Done) after)
-nothing_asked old v request cache is = record {
+pub nothing_asked : {D : Type 0} (view : D → View) (old : Opened D) (request : Request) (cache : List ℕ) → request ≡ PutAll cache []
+    → StateSteps view old old (λ before after. EventStep before (Call request) (Replied Done) after)
+nothing_asked view old request cache is = record {
   steps = λ tells before has. (
     before,
     has,
-    subst (λ (r : Request). EventStep (state_of old before v tells) (Call r) (Replied Done) (state_of old before v tells)) (sym is) (
-      counts_on old old before before v v tells (onward_none v),
-      subst (λ (parts : List (ℕ × Request)). PartsChange (stage_of old before) (PutAll cache []) parts [] (Replied Done) (stage_of old before) (Rose v.faults v.faults)) (sym (no_part cache 1)) (refl, refl),
+    subst (λ (r : Request). EventStep (state_of before (lane_view view (disks_in old)) tells) (Call r) (Replied Done) (state_of before (lane_view view (disks_in old)) tells)) (sym is) (
+      counts_on before before (lane_view view (disks_in old)) (lane_view view (disks_in old)) tells (onward_none _),
+      subst (λ (parts : List (ℕ × Request)). PartsChange before (PutAll cache []) parts [] (Replied Done) before (Rose (lane_view view (disks_in old)).faults (lane_view view (disks_in old)).faults)) (sym (no_part cache 1)) (refl, refl),
     ),
   );
 }
@@ -209,22 +120,22 @@ err_still (Ok value) P Q goes is = tt
 err_still (Err fault) P Q goes is = goes is
 
 -- steps of the state, in other words
-pub steps_as : (old : Opened) (v : View) (new : Opened) (w : View) (P Q : State → State → Type 0) → ((before after : State) → P before after → Q before after) → StateSteps old v new w P → StateSteps old v new w Q
-steps_as old v new w P Q goes is = record { steps = λ tells before has. let s = is.steps tells before has in (s.0, s.1, goes _ _ s.2) }
+pub steps_as : {D : Type 0} (view : D → View) (old new : Opened D) (P Q : State → State → Type 0) → ((before after : State) → P before after → Q before after) → StateSteps view old new P → StateSteps view old new Q
+steps_as view old new P Q goes is = record { steps = λ tells before has. let s = is.steps tells before has in (s.0, s.1, goes _ _ s.2) }
 
 -- all events were carried out
-pub stepped_all : (old : Opened) (v : View) (new : Opened) (w : View) (events given : List Event) (outcomes shown : List Outcome) → given ≡ events → shown ≡ outcomes
-    → StateSteps old v new w (λ before after. EventRun before given outcomes after) → StateSteps old v new w (λ before after. IsStepped before events (answers.Stepped shown) after)
-stepped_all old v new w events given outcomes shown all told is = steps_as old v new w (λ before after. EventRun before given outcomes after) (λ before after. IsStepped before events (answers.Stepped shown) after)
+pub stepped_all : {D : Type 0} (view : D → View) (old new : Opened D) (events given : List Event) (outcomes shown : List Outcome) → given ≡ events → shown ≡ outcomes
+    → StateSteps view old new (λ before after. EventRun before given outcomes after) → StateSteps view old new (λ before after. IsStepped before events (answers.Stepped shown) after)
+stepped_all view old new events given outcomes shown all told is = steps_as view old new (λ before after. EventRun before given outcomes after) (λ before after. IsStepped before events (answers.Stepped shown) after)
     (λ before after run. (outcomes, subst (λ (es : List Event). EventRun before es outcomes after) all run, ap (λ (os : List Outcome). answers.Stepped os) told)) is
 
-pub broken_all : (old : Opened) (v : View) (new : Opened) (w : View) (events given : List Event) → given ≡ events
-    → StateSteps old v new w (λ before after. EventsBreak before given after) → StateSteps old v new w (λ before after. EventsBreak before events after)
-broken_all old v new w events given all is = subst (λ (es : List Event). StateSteps old v new w (λ before after. EventsBreak before es after)) all is
+pub broken_all : {D : Type 0} (view : D → View) (old new : Opened D) (events given : List Event) → given ≡ events
+    → StateSteps view old new (λ before after. EventsBreak before given after) → StateSteps view old new (λ before after. EventsBreak before events after)
+broken_all view old new events given all is = subst (λ (es : List Event). StateSteps view old new (λ before after. EventsBreak before es after)) all is
 
-pub run_all : (old : Opened) (v : View) (new : Opened) (w : View) (events done : List Event) (outcomes : List Outcome) → events ≡ done
-    → StateSteps old v new w (λ before after. EventRun before done outcomes after) → StateSteps old v new w (λ before after. EventRun before events outcomes after)
-run_all old v new w events done outcomes all is = subst (λ (es : List Event). StateSteps old v new w (λ before after. EventRun before es outcomes after)) (sym all) is
+pub run_all : {D : Type 0} (view : D → View) (old new : Opened D) (events done : List Event) (outcomes : List Outcome) → events ≡ done
+    → StateSteps view old new (λ before after. EventRun before done outcomes after) → StateSteps view old new (λ before after. EventRun before events outcomes after)
+run_all view old new events done outcomes all is = subst (λ (es : List Event). StateSteps view old new (λ before after. EventRun before es outcomes after)) (sym all) is
 
 -- ---- one after the other
 
@@ -259,21 +170,21 @@ pub turn : (events done : List Event) (event : Event) (rest before : List Event)
 turn events done event rest before whole next = whole ∙ ap (λ (es : List Event). done ++ es) next ∙ sym (append_assoc done (event ∷ []) rest)
 
 -- the states of a run go on
-module _ (old : Opened) (u : View) (mid : Opened) (v : View) (new : Opened) (w : View) where
-  pub run_steps_more : (done : List Event) (outcomes : List Outcome) (event : Event) (outcome : Outcome) → StateSteps old u mid v (λ before after. EventRun before done outcomes after)
-      → StateSteps mid v new w (λ before after. EventStep before event outcome after) → StateSteps old u new w (λ before after. EventRun before (done ++ event ∷ []) (outcomes ++ outcome ∷ []) after)
+module _ {D : Type 0} (view : D → View) (old mid new : Opened D) where
+  pub run_steps_more : (done : List Event) (outcomes : List Outcome) (event : Event) (outcome : Outcome) → StateSteps view old mid (λ before after. EventRun before done outcomes after)
+      → StateSteps view mid new (λ before after. EventStep before event outcome after) → StateSteps view old new (λ before after. EventRun before (done ++ event ∷ []) (outcomes ++ outcome ∷ []) after)
   run_steps_more done outcomes event outcome run step = record {
     steps = λ tells before has. let r = run.steps tells before has in let s = step.steps tells r.0 r.1 in
         (s.0, s.1, event_run_more _ done outcomes _ event outcome _ r.2 s.2);
   }
 
-  pub steps_break_in : (events done rest : List Event) (event : Event) (outcomes : List Outcome) → events ≡ done ++ event ∷ rest → StateSteps old u mid v (λ before after. EventRun before done outcomes after)
-      → StateSteps mid v new w (λ before after. EventBreaks before event after) → StateSteps old u new w (λ before after. EventsBreak before events after)
+  pub steps_break_in : (events done rest : List Event) (event : Event) (outcomes : List Outcome) → events ≡ done ++ event ∷ rest → StateSteps view old mid (λ before after. EventRun before done outcomes after)
+      → StateSteps view mid new (λ before after. EventBreaks before event after) → StateSteps view old new (λ before after. EventsBreak before events after)
   steps_break_in events done rest event outcomes whole run breaks = record {
     steps = λ tells before has. let r = run.steps tells before has in let s = breaks.steps tells r.0 r.1 in
         (s.0, s.1, breaks_in _ _ _ events done rest event outcomes whole r.2 s.2);
   }
 
-pub steps_break_between : (old : Opened) (u : View) (new : Opened) (w : View) (events done rest : List Event) (outcomes : List Outcome) → events ≡ done ++ rest
-    → StateSteps old u new w (λ before after. EventRun before done outcomes after) → StateSteps old u new w (λ before after. EventsBreak before events after)
-steps_break_between old u new w events done rest outcomes whole run = steps_as old u new w _ _ (λ before after is. breaks_between before after events done rest outcomes whole is) run
+pub steps_break_between : {D : Type 0} (view : D → View) (old new : Opened D) (events done rest : List Event) (outcomes : List Outcome) → events ≡ done ++ rest
+    → StateSteps view old new (λ before after. EventRun before done outcomes after) → StateSteps view old new (λ before after. EventsBreak before events after)
+steps_break_between view old new events done rest outcomes whole run = steps_as view old new _ _ (λ before after is. breaks_between before after events done rest outcomes whole is) run

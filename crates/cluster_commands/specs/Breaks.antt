@@ -1,42 +1,61 @@
 -- How far a command may have come that memory ran out in: it isn't answered, and the run ends.
-use Rattle.std.specs.Prelude.{◌≡◌, ◌≢◌, ℕ, ◌⊎◌, List, [], ◌∷◌, ◌++◌, Contains, false}
+use Rattle.std.specs.Prelude.{◌≡◌, ◌⊎◌, ℕ, ◌<◌, List, [], ◌∷◌, ◌++◌, Contains, Option, Some, None, false}
 use Rattle.fault_count.specs.Rose.{Rose}
+use Rattle.cache_key.specs.declared.request.Mutation.{Mutation}
 use Rattle.cache_key.specs.declared.request.Reply.{Reply}
 use Rattle.cache_key.specs.declared.request.Request.{Request}
 use Rattle.cache_model.specs.Parts.{parts_of}
-use Rattle.cache_model.specs.Reply.{changes_asked}
+use Rattle.cache_model.specs.Reply.{mutation_of}
 use Rattle.script_lines.specs.declared.command.Command.{Command}
 use Rattle.script_lines.specs.declared.command.Command.TheVariants.{Create, Steps}
 use Rattle.script_lines.specs.declared.command.Event.{Event}
-use Rattle.script_lines.specs.declared.command.Event.TheVariants.{Call}
+use Rattle.script_lines.specs.declared.command.Event.TheVariants.{Call, Renew}
 use Rattle.script_lines.specs.declared.answer.Answer.{Answer}
 use Rattle.script_lines.specs.declared.answer.Outcome.{Outcome}
 use Rattle.script_lines.specs.declared.answer.Outcome.TheVariants.{Replied}
 use Rattle.disk_trait.specs.View.{View}
 use Rattle.disk_trait.specs.Moments.{Later}
-use Rattle.cluster_commands.specs.OnDisk.{IsInState, DiskIsIn}
+use Rattle.cluster_commands.specs.Commands.{CommandStep}
+use Rattle.cluster_commands.specs.Events.{IsLiveAfter, HasLastVersion, IsNotBuilt, IsNotDurable, IsAdmitted, CallChange, BothOpen, EventRun}
+use Rattle.cluster_commands.specs.OnDisk.{IsInState, DiskIsIn, lane_of, lane_view}
+use Rattle.cluster_commands.specs.State.{partition_count, OpenCluster, KnownFiles, unknown, closed, State, Counts}
 use Rattle.cluster_commands.specs.declared.cluster.Cluster.{Cluster}
-use Rattle.cluster_commands.specs.State.{KnownFiles, unknown, Stage, closed, opened, failing, State, Counts, partition_count, CallChange, EventRun, CommandStep}
 
--- the changes of the request are in flight
-abbrev pub IsInFlight : Stage → Request → Stage → Type 0
-IsInFlight (closed files) request new = ⊥
-IsInFlight (opened cluster) request new = (changes_asked request ≢ []) × (new ≡ failing cluster (changes_asked request))
-IsInFlight (failing cluster flight) request new = ⊥
+-- a mutation isn't durable, over contents of which a store is so long
+pub record MutationBreaks (mutation : Mutation) (old new : OpenCluster) : Type 0 where
+  pub size : ℕ
+  pub live : IsLiveAfter old.changes size
+  pub admitted : IsAdmitted old size mutation
+  pub not_durable : IsNotDurable size mutation old new
 
--- a request, or its part, is broken off: nothing is changed, or its changes are in flight
+abbrev pub AskedBreaks : Option Mutation → OpenCluster → OpenCluster → Type 0
+AskedBreaks None old new = ⊥
+AskedBreaks (Some mutation) old new = MutationBreaks mutation old new
+
+-- a request, or its part, is broken off: nothing is changed, or its mutation isn't durable
+abbrev pub CallBreaks : Request → OpenCluster → OpenCluster → Type 0
+CallBreaks request old new = (new ≡ old) ⊎ AskedBreaks (mutation_of request) old new
+
 abbrev pub PartBreaks : State → Request → State → Type 0
-PartBreaks old request new = Counts false old new × ((new.stage ≡ old.stage) ⊎ IsInFlight old.stage request new.stage)
+PartBreaks old request new = Counts false old new × BothOpen old.stage new.stage (CallBreaks request)
 
--- the parts of a request are broken off: before the next of them, or with its changes in flight, or after it was replied to
-abbrev pub PartsBreak : Stage → List (ℕ × Request) → Stage → Type 0 → Type 0
+-- the parts of a request are broken off: before the next of them, or within it, or after it was replied to
+abbrev pub PartsBreak : OpenCluster → List (ℕ × Request) → OpenCluster → Type 0 → Type 0
 PartsBreak old [] new fault = new ≡ old
 PartsBreak old (part ∷ parts) new fault =
-    (new ≡ old) ⊎ IsInFlight old part.1 new ⊎ (reply : Reply) × (mid : Stage) × CallChange old part.1 (Replied reply) mid fault × PartsBreak mid parts new fault
+    CallBreaks part.1 old new ⊎ (reply : Reply) × (mid : OpenCluster) × CallChange old part.1 (Replied reply) mid fault × PartsBreak mid parts new fault
 
--- the event is broken off: some of its parts are done, and the next is in flight or not
+-- a renewal is broken off
+abbrev pub RenewalBreaks : OpenCluster → ℕ → OpenCluster → Type 0
+RenewalBreaks old partition new = (partition < partition_count) × (HasLastVersion old → ⊥) × IsNotBuilt old new
+
+abbrev pub EventLeaves : OpenCluster → Event → OpenCluster → Type 0 → Type 0
+EventLeaves old (Call request) new fault = PartsBreak old (parts_of partition_count request) new fault
+EventLeaves old (Renew partition) new fault = RenewalBreaks old partition new
+
+-- the event is broken off: some of its parts are done, and the next isn't
 abbrev pub EventBreaks : State → Event → State → Type 0
-EventBreaks old (Call request) new = Counts false old new × PartsBreak old.stage (parts_of partition_count request) new.stage (Rose old.faults new.faults)
+EventBreaks old event new = Counts false old new × BothOpen old.stage new.stage (λ before after. EventLeaves before event after (Rose old.faults new.faults))
 
 -- the events are broken off between two of them, or within the next
 abbrev pub NextBreaks : State → List Event → State → Type 0
@@ -66,9 +85,9 @@ pub data CommandBreaks (hosts : List (List ℕ)) (old : State) (command : Comman
 -- ---- the code and the disk
 
 -- the command was carried out, and the code and the disk have gone on with it
-pub record IsCarriedOut (hosts : List (List ℕ)) (old : State) (command : Command) (answer : Answer) (cluster : Cluster) (v : View) : Type 0 where
+pub record IsCarriedOut {D : Type 0} (view : D → View) (hosts : List (List ℕ)) (old : State) (command : Command) (answer : Answer) (cluster : Cluster D) : Type 0 where
   pub new : State
-  pub at : IsInState cluster v new
+  pub at : IsInState view cluster new
   pub step : CommandStep hosts old command answer new
 
 -- the command was broken off, and the disk was left so
@@ -78,11 +97,11 @@ pub record IsBrokenOff (hosts : List (List ℕ)) (old : State) (command : Comman
   pub breaks : CommandBreaks hosts old command new
 
 -- What a command that is answered so does to the code and the disk, in whatever state they are.
-pub record Carries (hosts : List (List ℕ)) (old : Cluster) (v : View) (command : Command) (answer : Answer) (new : Cluster) (w : View) : Type 0 where
-  pub step : (state : State) → IsInState old v state → IsCarriedOut hosts state command answer new w
-  pub later : Later v w
+pub record Carries {D : Type 0} (view : D → View) (hosts : List (List ℕ)) (old : Cluster D) (command : Command) (answer : Answer) (new : Cluster D) : Type 0 where
+  pub step : (state : State) → IsInState view old state → IsCarriedOut view hosts state command answer new
+  pub later : Later (lane_view view (lane_of old)) (lane_view view (lane_of new))
 
 -- What a command that is broken off does to them.
-pub record BreaksOff (hosts : List (List ℕ)) (old : Cluster) (v : View) (command : Command) (w : View) : Type 0 where
-  pub broken : (state : State) → IsInState old v state → IsBrokenOff hosts state command w
-  pub later : Later v w
+pub record BreaksOff {D : Type 0} (view : D → View) (hosts : List (List ℕ)) (old : Cluster D) (command : Command) (new : Cluster D) : Type 0 where
+  pub broken : (state : State) → IsInState view old state → IsBrokenOff hosts state command (lane_view view (lane_of new))
+  pub later : Later (lane_view view (lane_of old)) (lane_view view (lane_of new))

@@ -1,20 +1,19 @@
 //! What each command does to a cluster, and what it is answered.
-ghost use Rattle.std.specs.Prelude.{◌≡◌, List, IfOk, OnOk, OnErr};
-ghost use Rattle.cache_model.specs.Change.{Change};
+ghost use Rattle.std.specs.Prelude.{◌≡◌, length, List, IfOk, OnOk, OnErr};
 ghost use Rattle.disk_trait.specs.Moments.{Onward};
-ghost use Rattle.partition_map.specs.After.{AgreesWith};
-ghost use Rattle.cluster_commands.specs.State.{IsStepped, IsDump, dump_of};
 ghost use Rattle.script_lines.specs.declared.answer.Answer.TheVariants.{Dumped};
 ghost use Rattle.cluster_commands.specs.Breaks.{EventsBreak, Carries, BreaksOff};
-ghost use Rattle.cluster_commands.specs.OnDisk.{cluster_of, IsReady, IsOnDisk, IsDiskRestarted, StateSteps};
-ghost use Rattle.cluster_commands.specs.declared.cluster.Cluster.TheVariants.{Closed};
+ghost use Rattle.cluster_commands.specs.Commands.{IsStepped, IsDump, dump_of};
+ghost use Rattle.cluster_commands.specs.OnDisk.{IsClosed, IsReady, IsServing, IsClusterOf, FilesHold, IsDiskRestarted, StateSteps, disks_in, lane_of, lane_view};
+ghost use Rattle.cluster_commands.specs.State.{OpenCluster, known_of, store_in};
+ghost use Rattle.cluster_commands.specs.declared.cluster.Cluster.TheVariants.{Closed, Open};
 
 use crate::answers::refused;
 use crate::cluster::{Cluster, Opened};
 use crate::create::create;
 use crate::events::run_events;
 use crate::recover::recover;
-use crate::restart::restart_disk;
+use crate::restart::restart_lane;
 use cache_key::HostName;
 use cache_model::Contents;
 use disk_trait::Disk;
@@ -25,23 +24,18 @@ use std::alloc::{AllocError, Global};
 pub fn obey<D: Disk>(
     alloc: Global,
     hosts: &[HostName],
-    disk: &mut D,
-    cluster: &mut Cluster,
+    cluster: Cluster<D>,
     command: Command,
-) -> Result<Answer, AllocError>
-    requires ready { IsReady cluster.old (D.view disk.old) }
-    ensures carried { IfOk result (λ answer. Carries hosts.now cluster.old (D.view disk.old) command answer cluster.new (D.view disk.new)) }
-    ensures broken { OnErr result (BreaksOff hosts.now cluster.old (D.view disk.old) command (D.view disk.new)) }
-    ensures ready { OnOk result (IsReady cluster.new (D.view disk.new)) }
+) -> (Cluster<D>, Result<Answer, AllocError>)
+    requires ready { IsReady D.view cluster }
+    ensures carried { IfOk result.1 (λ answer. Carries D.view hosts.now cluster command answer result.0) }
+    ensures broken { OnErr result.1 (BreaksOff D.view hosts.now cluster command result.0) }
+    ensures ready { OnOk result.1 (IsReady D.view result.0) }
+    ensures one { length (lane_of result.0) ≡ 1 }
 {
-    let Cluster::Open { cluster: opened } = cluster else {
-        return begin(alloc, hosts, disk, cluster, command);
-    };
-    match command {
-        Command::Create { .. } | Command::Recover { .. } => Ok(refused(Refusal::Open)),
-        Command::Stop => Ok(stop(disk, cluster)),
-        Command::Dump => dump(alloc, opened),
-        Command::Steps { events } => steps(alloc, disk, opened, events),
+    match cluster {
+        Cluster::Closed { disks } => begin(alloc, hosts, disks, command),
+        Cluster::Open { cluster } => serve(alloc, hosts, cluster, command),
     }
 }
 
@@ -49,44 +43,80 @@ pub fn obey<D: Disk>(
 fn begin<D: Disk>(
     alloc: Global,
     hosts: &[HostName],
-    disk: &mut D,
-    cluster: &mut Cluster,
+    disks: Vec<D>,
     command: Command,
-) -> Result<Answer, AllocError>
-    requires closed { cluster.old ≡ Closed }
-    requires ready { IsReady cluster.old (D.view disk.old) }
-    ensures carried { IfOk result (λ answer. Carries hosts.now cluster.old (D.view disk.old) command answer cluster.new (D.view disk.new)) }
-    ensures broken { OnErr result (BreaksOff hosts.now cluster.old (D.view disk.old) command (D.view disk.new)) }
-    ensures ready { OnOk result (IsReady cluster.new (D.view disk.new)) }
+) -> (Cluster<D>, Result<Answer, AllocError>)
+    requires ready { IsReady D.view (Closed disks) }
+    ensures carried { IfOk result.1 (λ answer. Carries D.view hosts.now (Closed disks) command answer result.0) }
+    ensures broken { OnErr result.1 (BreaksOff D.view hosts.now (Closed disks) command result.0) }
+    ensures ready { OnOk result.1 (IsReady D.view result.0) }
+    ensures one { length (lane_of result.0) ≡ 1 }
 {
     match command {
-        Command::Create { host } => create(alloc, hosts, disk, cluster, host),
-        Command::Recover { host } => recover(alloc, hosts, disk, cluster, host),
-        Command::Stop | Command::Dump | Command::Steps { .. } => Ok(refused(Refusal::Closed)),
+        Command::Create { host } => create(alloc, hosts, disks, host),
+        Command::Recover { host } => recover(alloc, hosts, disks, host),
+        Command::Stop | Command::Dump | Command::Steps { .. } => {
+            (Cluster::Closed { disks }, Ok(refused(Refusal::Closed)))
+        }
     }
 }
 
-// Closes the cluster, and restarts the disk: what memory has of it is gone.
-fn stop<D: Disk>(disk: &mut D, cluster: &mut Cluster) -> Answer
-    ensures answer { result ≡ Answer.Stopped }
-    ensures closed { cluster.new ≡ Closed }
-    ensures restarted { IsDiskRestarted (D.view disk.old) (D.view disk.new) }
+// Carries out a command of an open cluster.
+fn serve<D: Disk>(
+    alloc: Global,
+    _hosts: &[HostName],
+    mut cluster: Opened<D>,
+    command: Command,
+) -> (Cluster<D>, Result<Answer, AllocError>)
+    requires serving { IsServing cluster.kept }
+    ensures carried { IfOk result.1 (λ answer. Carries D.view _hosts.now (Open cluster) command answer result.0) }
+    ensures broken { OnErr result.1 (BreaksOff D.view _hosts.now (Open cluster) command result.0) }
+    ensures ready { OnOk result.1 (IsReady D.view result.0) }
+    ensures one { length (lane_of result.0) ≡ 1 }
 {
-    restart_disk(disk);
-    *cluster = Cluster::Closed;
-    Answer::Stopped
+    match command {
+        Command::Create { .. } | Command::Recover { .. } => {
+            (Cluster::Open { cluster }, Ok(refused(Refusal::Open)))
+        }
+        Command::Stop => (stop(cluster), Ok(Answer::Stopped)),
+        Command::Dump => {
+            let answer = dump(alloc, &cluster);
+            (Cluster::Open { cluster }, answer)
+        }
+        Command::Steps { events } => {
+            let answer = steps(alloc, &mut cluster, events);
+            (Cluster::Open { cluster }, answer)
+        }
+    }
 }
 
-fn dump(alloc: Global, cluster: &Opened) -> Result<Answer, AllocError>
-    ensures { IfOk result (λ answer. (changes : List Change) → AgreesWith changes cluster.now.contents → IsDump (cluster_of cluster.now changes) answer) }
+// Closes the cluster, and restarts its disk: what memory has of it is gone.
+fn stop<D: Disk>(cluster: Opened<D>) -> Cluster<D>
+    requires one { length (disks_in cluster) ≡ 1 }
+    ensures closed { IsClosed result }
+    ensures restarted { IsDiskRestarted (lane_view D.view (disks_in cluster)) (lane_view D.view (lane_of result)) }
+    ensures one { length (lane_of result) ≡ 1 }
 {
-    let caches = cluster.contents.contents(alloc)?;
+    let mut disks = cluster.kept.into_cell().into_lane();
+    restart_lane(disks.as_mut_slice());
+    Cluster::Closed { disks }
+}
+
+// The contents are shown.
+fn dump<D: Disk>(alloc: Global, cluster: &Opened<D>) -> Result<Answer, AllocError>
+    ensures { IfOk result (λ answer. (seen : OpenCluster) → IsClusterOf cluster.now seen → IsDump seen answer) }
+{
+    let caches = cluster.kept.cell().contents().contents(alloc)?;
     dump_with(alloc, cluster, caches)
 }
 
 // The contents are shown. A partition without a cache isn't.
-fn dump_with(alloc: Global, cluster: &Opened, caches: Contents) -> Result<Answer, AllocError>
-    ensures { IfOk result (λ answer. (changes : List Change) → answer ≡ Dumped (dump_of (cluster_of cluster.now changes) caches)) }
+fn dump_with<D: Disk>(
+    alloc: Global,
+    cluster: &Opened<D>,
+    caches: Contents,
+) -> Result<Answer, AllocError>
+    ensures { IfOk result (λ answer. (seen : OpenCluster) → IsClusterOf cluster.now seen → answer ≡ Dumped (dump_of seen caches)) }
 {
     let mut partitions = Vec::new(alloc);
     if !caches.caches().is_empty() {
@@ -94,7 +124,7 @@ fn dump_with(alloc: Global, cluster: &Opened, caches: Contents) -> Result<Answer
         partitions.push(PartitionDump {
             caches,
             host,
-            id: cluster.store.id,
+            id: cluster.kept.cell().id(),
         })?;
     }
     Ok(Answer::Dumped {
@@ -104,18 +134,19 @@ fn dump_with(alloc: Global, cluster: &Opened, caches: Contents) -> Result<Answer
 
 fn steps<D: Disk>(
     alloc: Global,
-    disk: &mut D,
-    cluster: &mut Opened,
+    cluster: &mut Opened<D>,
     events: Events,
 ) -> Result<Answer, AllocError>
-    requires on_disk { IsOnDisk cluster.old (D.view disk.old) }
-    ensures step { IfOk result (λ answer. StateSteps cluster.old (D.view disk.old) cluster.new (D.view disk.new) (λ before after. IsStepped before events answer after)) }
-    ensures broken { OnErr result (StateSteps cluster.old (D.view disk.old) cluster.new (D.view disk.new) (λ before after. EventsBreak before events after)) }
-    ensures on_disk { IsOnDisk cluster.new (D.view disk.new) }
-    ensures onward { Onward (D.view disk.old) (D.view disk.new) }
+    requires serving { IsServing cluster.old.kept }
+    ensures step { IfOk result (λ answer. StateSteps D.view cluster.old cluster.new (λ before after. IsStepped before events answer after)) }
+    ensures broken { OnErr result (StateSteps D.view cluster.old cluster.new (λ before after. EventsBreak before events after)) }
+    ensures serving { IsServing cluster.new.kept }
+    ensures stored { (seen : OpenCluster) → IsClusterOf cluster.new seen → FilesHold (store_in (known_of seen)) (lane_view D.view (disks_in cluster.new)) }
+    ensures onward { Onward (lane_view D.view (disks_in cluster.old)) (lane_view D.view (disks_in cluster.new)) }
 {
-    let outcomes = run_events(alloc, disk, cluster, events.into_vec())?;
+    let outcomes = run_events(alloc, cluster, events.into_vec());
+    cluster.is_stored();
     Ok(Answer::Stepped {
-        outcomes: Outcomes::of(outcomes),
+        outcomes: Outcomes::of(outcomes?),
     })
 }

@@ -1,7 +1,7 @@
 //! Files that a recovery finds: damaged ones, and the newer of two stores.
 use crate::fixtures::{
-    CLOSED, CREATE, CREATED, DUMP, EMPTY, FAULT, NEW_KEY, OPEN, OPENED, PUT_B2, RECOVER, STOP,
-    STOPPED, STORE, expect_over,
+    CLOSED, CREATE, CREATED, DUMP, EMPTY, FAULT, HAS_A1, NEW_KEY, OPEN, OPENED, PUT_B2, RECOVER,
+    STOP, STOPPED, STORE, expect_over,
 };
 use disk_memory::{DiskPlan, MemoryDisk};
 use disk_trait::write_synced;
@@ -129,22 +129,23 @@ fn the_newest_store_is_opened(rt: HostRuntime) {
     }
 }
 
-// Calls 5 and 6 erase the older one, and 7 and 8 the newer.
-const ERASED: &[(&str, (File, File), u64)] = &[
-    ("the older in file 0", (FIRST, LATER), 5),
-    ("the older in file 0, erased", (FIRST, LATER), 7),
-    ("the older in file 1", (LATER, FIRST), 5),
-    ("the older in file 1, erased", (LATER, FIRST), 7),
+const KEPT_LATER: &str =
+    "{\"dump\":[{\"caches\":{\"c\":{\"a\":\"2\"}},\"host\":\"a\",\"id\":\"0-ff-1-0\",\"partition\":0}]}\n";
+
+// Calls 5 and 6 erase file 1, and 7 and 8 file 0.
+const ERASED: &[(&str, (File, File), u64, &str)] = &[
+    ("the newer in file 1", (FIRST, LATER), 5, KEPT_LATER),
+    ("the newer in file 1, erased", (FIRST, LATER), 7, HAS_A1),
+    ("the older in file 1", (LATER, FIRST), 5, KEPT_LATER),
+    ("the older in file 1, erased", (LATER, FIRST), 7, KEPT_LATER),
 ];
 
 #[test]
-fn a_create_erases_the_older_store_first(rt: HostRuntime) {
+fn a_create_erases_file_1_first(rt: HostRuntime) {
     let script = [CREATE, RECOVER, DUMP];
-    let found =
-        "{\"dump\":[{\"caches\":{\"c\":{\"a\":\"2\"}},\"host\":\"a\",\"id\":\"0-ff-1-0\",\"partition\":0}]}\n";
-    for (case, files, fuse) in ERASED {
+    for (case, files, fuse, found) in ERASED {
         let disk = disk_holding(&rt, rt.alloc(), *files, Some(*fuse), 0);
-        let want = [FAULT, OPENED, found];
+        let want = [FAULT, OPENED, *found];
         expect_over(&rt, rt.alloc(), case, disk, &script, &want);
     }
 }

@@ -64,8 +64,6 @@ pub(crate) const FAULT: &str = "{\"host\":\"a\",\"refused\":\"fault\"}\n";
 
 pub(crate) const PUT_FAULT: &str = "{\"steps\":[{\"host\":\"a\",\"refused\":\"fault\"}]}\n";
 
-pub(crate) const PUT_CLOSED: &str = "{\"steps\":[{\"refused\":\"closed\"}]}\n";
-
 pub(crate) const EMPTY: &str = "{\"dump\":[]}\n";
 
 pub(crate) const HAS_A1: &str =

@@ -13,6 +13,8 @@ mod files;
 #[cfg(test)]
 mod fixtures;
 #[cfg(test)]
+mod renewals;
+#[cfg(test)]
 mod reports;
 #[cfg(test)]
 mod script_ends;

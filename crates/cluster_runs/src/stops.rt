@@ -1,8 +1,8 @@
 //! Stops and failing disks: what was answered is found again.
 use crate::fixtures::{
     ABSENT, CLOSED, CREATE, CREATED, DUMP, EMPTY, FAULT, HAS_A1, HAS_B2, NEW_KEY, OPEN, OPENED,
-    PUT_A1, PUT_A3, PUT_B2, PUT_CLOSED, PUT_FAULT, RECOVER, STOP, STOPPED, WHOLE, WORDS, disk_of,
-    expect_over, expect_report, expect_run, expect_same, expect_store, joined, run_on, words_in,
+    PUT_A1, PUT_A3, PUT_B2, PUT_FAULT, RECOVER, STOP, STOPPED, WHOLE, WORDS, disk_of, expect_over,
+    expect_report, expect_run, expect_same, expect_store, joined, run_on, words_in,
 };
 use disk_trait::Disk;
 use plan_site::memory_site;
@@ -64,16 +64,25 @@ fn a_stopped_cluster_is_recovered(rt: HostRuntime) {
 // What a create and three puts are answered, a stop after them, and a recovery with a dump after that.
 type Answers = ([&'static str; 4], &'static str, [&'static str; 2]);
 
-// So it is where this call fails with all later ones, or alone.
-fn expect_found(rt: &impl Abort, alloc: Global, call: u64, pick: u8, want: Answers) {
+const THREE_PUTS: [&str; 7] = [CREATE, PUT_A1, PUT_B2, PUT_A3, STOP, RECOVER, DUMP];
+
+fn wanted(want: Answers) -> [&'static str; 7] {
     let ([create, put, second_put, third_put], stopped, [recover, dump]) = want;
-    let script = [CREATE, PUT_A1, PUT_B2, PUT_A3, STOP, RECOVER, DUMP];
-    let want = [create, put, second_put, third_put, stopped, recover, dump];
+    [create, put, second_put, third_put, stopped, recover, dump]
+}
+
+// So it is where this call fails with all later ones.
+fn expect_found(rt: &impl Abort, alloc: Global, call: u64, pick: u8, want: Answers) {
     let line = format!(in alloc; "{WORDS} --cut a/0/{call} --pick {pick}").expect(rt, "words");
     let line = line.as_str();
-    expect_run(rt, alloc, line, line, &script, &want);
+    expect_run(rt, alloc, line, line, &THREE_PUTS, &wanted(want));
+}
+
+// And so where it fails alone.
+fn expect_repaired(rt: &impl Abort, alloc: Global, call: u64, pick: u8, want: Answers) {
+    let case = format!(in alloc; "call {call} alone, pick {pick}").expect(rt, "a case");
     let disk = disk_of(rt, alloc, call, 0, pick);
-    expect_over(rt, alloc, line, disk, &script, &want);
+    expect_over(rt, alloc, case.as_str(), disk, &THREE_PUTS, &wanted(want));
 }
 
 // The same where the end of a run stands for the stop, and the site that it gives back has a second one.
@@ -95,9 +104,9 @@ fn expect_found_again(rt: &impl Abort, alloc: Global, call: u64, pick: u8, want:
 
 const NOT_CREATED: [&str; 4] = [FAULT, CLOSED, CLOSED, CLOSED];
 
-const NO_PUT: [&str; 4] = [CREATED, PUT_FAULT, PUT_CLOSED, PUT_CLOSED];
+const NO_PUT: [&str; 4] = [CREATED, PUT_FAULT, PUT_FAULT, PUT_FAULT];
 
-const ONE_PUT: [&str; 4] = [CREATED, NEW_KEY, PUT_FAULT, PUT_CLOSED];
+const ONE_PUT: [&str; 4] = [CREATED, NEW_KEY, PUT_FAULT, PUT_FAULT];
 
 const TWO_PUTS: [&str; 4] = [CREATED, NEW_KEY, NEW_KEY, PUT_FAULT];
 
@@ -149,14 +158,51 @@ fn every_stop_keeps_what_was_answered(rt: HostRuntime) {
     }
 }
 
+const NO_FIRST: [&str; 4] = [CREATED, PUT_FAULT, NEW_KEY, NEW_KEY];
+
+const NO_SECOND: [&str; 4] = [CREATED, NEW_KEY, PUT_FAULT, OVER_1];
+
+const LAST_TWO: [&str; 2] = [
+    OPENED,
+    "{\"dump\":[{\"caches\":{\"c\":{\"a\":\"3\",\"b\":\"2\"}},\"host\":\"a\",\"id\":\"0-2-1-0\",\"partition\":0}]}\n",
+];
+
+const LAST: [&str; 2] = [
+    OPENED,
+    "{\"dump\":[{\"caches\":{\"c\":{\"a\":\"3\"}},\"host\":\"a\",\"id\":\"0-2-1-0\",\"partition\":0}]}\n",
+];
+
+// The same where the call fails alone: the next put builds the store anew first, without what was refused.
+const EVERY_FAILURE: &[(u64, u64, [&str; 4], &str, [&str; 2], [&str; 2])] = &[
+    (1, 7, NOT_CREATED, CLOSED, NOTHING, NOTHING),
+    (7, 9, NOT_CREATED, CLOSED, NOTHING, NONE),
+    (9, 13, NO_FIRST, STOPPED, LAST_TWO, LAST_TWO),
+    (13, 17, NO_SECOND, STOPPED, LAST, LAST),
+    (17, 19, TWO_PUTS, STOPPED, TWO, TWO),
+    (19, 21, TWO_PUTS, STOPPED, TWO, THREE),
+    (21, 22, ALL_PUTS, STOPPED, THREE, THREE),
+];
+
+#[test]
+fn the_next_put_builds_the_store_anew(rt: HostRuntime) {
+    for (first, end, answers, stopped, found, pending) in EVERY_FAILURE {
+        for call in *first..*end {
+            for (pick, found) in [(0, found), (1, pending), (2, pending), (3, found)] {
+                let want = (*answers, *stopped, *found);
+                expect_repaired(&rt, rt.alloc(), call, pick, want);
+            }
+        }
+    }
+}
+
 const PUTS: &str =
     "{\"do\":\"steps\",\"events\":[[\"put\",\"c\",\"a\",\"1\"],[\"put\",\"c\",\"a\",\"2\"],[\"get\",\"c\",\"a\"],[\"put\",\"c\",\"b\",\"3\"]]}\n";
 
 const FIRST_FAULT: &str =
-    "{\"steps\":[{\"host\":\"a\",\"refused\":\"fault\"},{\"refused\":\"closed\"},{\"value\":null},{\"refused\":\"closed\"}]}\n";
+    "{\"steps\":[{\"host\":\"a\",\"refused\":\"fault\"},{\"host\":\"a\",\"refused\":\"fault\"},{\"value\":null},{\"host\":\"a\",\"refused\":\"fault\"}]}\n";
 
 const SECOND_FAULT: &str =
-    "{\"steps\":[{\"value\":null},{\"host\":\"a\",\"refused\":\"fault\"},{\"value\":\"1\"},{\"refused\":\"closed\"}]}\n";
+    "{\"steps\":[{\"value\":null},{\"host\":\"a\",\"refused\":\"fault\"},{\"value\":\"1\"},{\"host\":\"a\",\"refused\":\"fault\"}]}\n";
 
 const HAS_A2: &str =
     "{\"dump\":[{\"caches\":{\"c\":{\"a\":\"2\"}},\"host\":\"a\",\"id\":\"0-1-1-0\",\"partition\":0}]}\n";
@@ -196,18 +242,17 @@ const ONCE: [&str; 6] = [CREATED, NEW_KEY, STOPPED, OPENED, OPEN, HAS_A1];
 
 // Which read fails, and the answers to a put, a stop, two recoveries and a dump.
 const FAILING_READS: &[(&str, u64, [&str; 6])] = &[
-    ("the prefix of file 0, at the create", 1, NEVER),
-    ("the prefix of file 1, at the create", 2, NEVER),
-    ("the length of file 1", 3, NEVER),
-    ("the length of file 0", 4, NEVER),
-    ("the length of file 0 once more", 5, NEVER),
-    ("its first byte", 6, NEVER),
-    ("the prefix of file 0", 7, AGAIN),
-    ("the prefix of file 1", 8, AGAIN),
-    ("the length of the newest file", 9, AGAIN),
-    ("its bytes", 10, AGAIN),
-    ("the length of the other file", 11, AGAIN),
-    ("a call that isn't made", 12, ONCE),
+    ("the first byte of file 1, at the create", 1, NEVER),
+    ("the length of file 1", 2, NEVER),
+    ("the length of file 0", 3, NEVER),
+    ("its first byte", 4, NEVER),
+    ("the prefix of file 0", 5, AGAIN),
+    ("the prefix of file 1", 6, AGAIN),
+    ("the length of the newest file", 7, AGAIN),
+    ("its bytes", 8, AGAIN),
+    ("the first byte of the other file", 9, AGAIN),
+    ("its length", 10, AGAIN),
+    ("a call that isn't made", 11, ONCE),
 ];
 
 #[test]

@@ -1,36 +1,63 @@
-use Rattle.std.proofs.Common.{◌≡◌, ◌≤◌, refl, List, ℕ, sym, subst, ap, Err, arith}
+use Rattle.std.proofs.Common.{◌≡◌, ◌≤◌, refl, List, ℕ, length, sym, ◌∙◌, subst, ap, Err, arith}
+use Rattle.disk_trait.specs.View.{View}
+use Rattle.disk_trait.specs.Moments.{Later}
 use Rattle.fault_count.specs.Rose.{Rose}
 use Rattle.report_lines.specs.declared.fault.Fault.TheVariants.{Words}
 use Rattle.script_loop.specs.Ends.{EndsReport}
 use Rattle.script_loop.specs.declared.status.Status.TheVariants.{NoMemory}
 use Rattle.script_loop.proofs.EndsLemmas.{nothing_reported, ends_at_start, run_at_start}
-use Rattle.cluster_commands.specs.OnDisk.{DiskIsIn}
+use Rattle.cluster_commands.specs.OnDisk.{DiskIsIn, lane_view}
 use Rattle.cluster_cli.specs.Sites.{FromStart, IsLeftBy, run_on}
 use Rattle.cluster_commands.specs.State.{State, begun}
-use Rattle.cluster_cli.proofs.SiteLemmas.{disk_is, disk_put, unchanged_disk, left_at_start, not_started, for_disk}
+use Rattle.cluster_cli.proofs.SiteLemmas.{planned_lanes, site_disk, given_lane, lanes_given, unchanged_disk, left_at_start, not_started, for_disk}
 use Rattle.cluster_cli.proofs.run.run_words.Goals as goal
+
+pub take_disks-disks-requires : goal.take_disks-disks-requires
+take_disks-disks-requires g c =
+    let of = c.requires.site _ _ c.in-Ok.ensures.plan in
+    let hosts = ap length (of.0 ∙ c.in-Ok.ensures.plan.hosts_are) in
+    record { lanes = planned_lanes c.args.site.now.lanes.items _ _ (of.1 ∙ c.in-Ok.ensures.plan.partitions_are) (omega (arith, hosts, c.args.site.now.hosts.ok.0)) c.requires.lanes }
 
 pub returns-clause-ends : goal.returns-clause-ends
 returns-clause-ends g c = λ plan script left old new disks.
-    let finish = c.run_plan-finish in
+    let planned = c.run_plan-planned in
+    let taken = c.take_disks-disks in
     let view = g.D.Disk.view in
-    for_disk finish.result.status view c.args.site.now.hosts.items old new c.index_mut-2.result.now finish.new.disk
-    (λ span. EndsReport span script (Rose (g.S.Source.faults c.args.source.now) (g.S.Source.faults finish.new.source)) (g.K.Sink.written c.args.sink.now) finish.result.status (g.S.Source.left finish.new.source) (g.K.Sink.written finish.new.sink))
-    (disk_is _ _ old _ c.index_mut.ensures.value c.index_mut-2.ensures.value disks.old_is)
-    (disk_put _ _ c.index_mut.result.now.disks.items _ new refl disks.new_is)
-    (subst (λ (hosts : List (List ℕ)). FromStart finish.result.status (view c.index_mut-2.result.now) (view finish.new.disk)
-    (λ (first : State). EndsReport (run_on hosts first (view finish.new.disk)) script (Rose (g.S.Source.faults c.args.source.now) (g.S.Source.faults finish.new.source)) (g.K.Sink.written c.args.sink.now) finish.result.status (g.S.Source.left finish.new.source) (g.K.Sink.written finish.new.sink)))
-    c.deref.ensures.value (finish.ensures.ends script left))
+    for_disk planned.result.finish.status c.args.site.now.hosts.items (view old) (view new) (lane_view view taken.result.items) (lane_view view planned.result.disks.items)
+    (λ span. EndsReport span script (Rose (g.S.Source.faults c.args.source.now) (g.S.Source.faults planned.new.source)) (g.K.Sink.written c.args.sink.now) planned.result.finish.status (g.S.Source.left planned.new.source) (g.K.Sink.written planned.new.sink))
+    (site_disk view c.args.site.now.lanes.items (record { disks = taken.result }) old taken.ensures.taken disks.old_is)
+    (site_disk view c.push_reserved.new.self.items (record { disks = planned.result.disks }) new (given_lane taken.new.lanes.items c.push_reserved.new.self.items (record { disks = planned.result.disks }) c.push_reserved.ensures.items taken.ensures.none) disks.new_is)
+    (subst (λ (hosts : List (List ℕ)). FromStart planned.result.finish.status (lane_view view taken.result.items) (lane_view view planned.result.disks.items)
+    (λ (first : State). EndsReport (run_on hosts first (lane_view view planned.result.disks.items)) script (Rose (g.S.Source.faults c.args.source.now) (g.S.Source.faults planned.new.source)) (g.K.Sink.written c.args.sink.now) planned.result.finish.status (g.S.Source.left planned.new.source) (g.K.Sink.written planned.new.sink)))
+    c.deref.ensures.value (planned.ensures.ends script left))
 
 pub returns-clause-kept : goal.returns-clause-kept
 returns-clause-kept g c = λ plan old new disks.
-    let finish = c.run_plan-finish in
+    let planned = c.run_plan-planned in
+    let taken = c.take_disks-disks in
     let view = g.D.Disk.view in
-    for_disk finish.result.status view c.args.site.now.hosts.items old new c.index_mut-2.result.now finish.new.disk (IsLeftBy finish.result.status)
-    (disk_is _ _ old _ c.index_mut.ensures.value c.index_mut-2.ensures.value disks.old_is)
-    (disk_put _ _ c.index_mut.result.now.disks.items _ new refl disks.new_is)
-    (subst (λ (hosts : List (List ℕ)). FromStart finish.result.status (view c.index_mut-2.result.now) (view finish.new.disk) (λ (first : State). IsLeftBy finish.result.status (run_on hosts first (view finish.new.disk))))
-    c.deref.ensures.value finish.ensures.kept)
+    for_disk planned.result.finish.status c.args.site.now.hosts.items (view old) (view new) (lane_view view taken.result.items) (lane_view view planned.result.disks.items) (IsLeftBy planned.result.finish.status)
+    (site_disk view c.args.site.now.lanes.items (record { disks = taken.result }) old taken.ensures.taken disks.old_is)
+    (site_disk view c.push_reserved.new.self.items (record { disks = planned.result.disks }) new (given_lane taken.new.lanes.items c.push_reserved.new.self.items (record { disks = planned.result.disks }) c.push_reserved.ensures.items taken.ensures.none) disks.new_is)
+    (subst (λ (hosts : List (List ℕ)). FromStart planned.result.finish.status (lane_view view taken.result.items) (lane_view view planned.result.disks.items) (λ (first : State). IsLeftBy planned.result.finish.status (run_on hosts first (lane_view view planned.result.disks.items))))
+    c.deref.ensures.value planned.ensures.kept)
+
+pub returns-clause-given_back : goal.returns-clause-given_back
+returns-clause-given_back g c =
+    let planned = c.run_plan-planned in
+    let taken = c.take_disks-disks in
+    let view = g.D.Disk.view in
+    let of = c.requires.site _ _ c.in-Ok.ensures.plan in
+    let hosts = ap length (of.0 ∙ c.in-Ok.ensures.plan.hosts_are) in
+    let given = given_lane taken.new.lanes.items c.push_reserved.new.self.items (record { disks = planned.result.disks }) c.push_reserved.ensures.items taken.ensures.none in
+    record {
+      same = refl;
+      lanes = lanes_given c.push_reserved.new.self.items _ _ (record { disks = planned.result.disks }) (of.1 ∙ c.in-Ok.ensures.plan.partitions_are) (omega (arith, hosts, c.args.site.now.hosts.ok.0)) given
+          (let one = planned.ensures.one in omega (arith, one, planned.result.disks.ok.0));
+      later = λ old new disks.
+          subst (λ (w : View). Later (view old) w) (site_disk view c.push_reserved.new.self.items (record { disks = planned.result.disks }) new given disks.new_is)
+          (subst (λ (v : View). Later v (lane_view view planned.result.disks.items)) (site_disk view c.args.site.now.lanes.items (record { disks = taken.result }) old taken.ensures.taken disks.old_is) planned.ensures.later);
+    }
 
 pub returns-in-Err-Words-clause-words : goal.returns-in-Err-Words-clause-words
 returns-in-Err-Words-clause-words g c = λ is. c.in-Err-Words.ensures.words c.in-Err-Words.reason (ap Err c.in-Err-Words.field-0-is)

@@ -11,6 +11,8 @@
 //! acts are cut short (`AreCutShort`, specs/Acts.antt), and so a whole plan keeps the invariant of the site (`IsCarriedOver`,
 //! specs/Carried.antt, `act_laws`).
 //! Hides: nothing; no code stands here, and each law is the contract of a function that does nothing.
+//! Laws: those of the modules; ActsLemmas, AgreementLemmas, CarriedLemmas, MembersLemmas, MemoryLemmas, PicksLemmas, RestartLemmas,
+//! SiteLemmas, SiteStepLemmas and TurnsLemmas for proofs.
 //! Not here: kinds of files (file_kinds), how rosters follow one another (roster_form), the verdict of a recovery (quorum), and
 //! the plans of commands. Worked examples: proofs/Rows.antt.
 #![tactic(auto)]

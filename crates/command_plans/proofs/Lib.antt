@@ -1,0 +1,11 @@
+pub mod WorkedRuns
+pub mod CarriedOutLemmas
+pub mod AnsweredLemmas
+pub mod FaultLemmas
+pub mod Rows
+pub mod RefusedRows
+pub mod RecoveryLemmas
+pub mod StageLemmas
+pub mod CanonicalLemmas
+pub mod FoundLemmas
+pub mod FoundRefusalLemmas

@@ -1,0 +1,10 @@
+pub mod Asked
+pub mod Canonical
+pub mod Found
+pub mod Stage
+pub mod Plan
+pub mod PartPlans
+pub mod ChangePlans
+pub mod OpeningPlans
+pub mod Steps
+pub mod OnDisks

@@ -118,7 +118,7 @@ when_open (found_as found) P is = absurd is
 when_open (closed durable) P is = absurd is
 when_open (opened site) P is = (site, is)
 
-outcome_cases : (found : SiteAnswer) (mid : RunState) (answer : SiteAnswer) (new : RunState) (next : Reply → Type 0) → IsOutcomeAfter found mid answer new next → ((reply : Reply) × (found ≡ replied reply) × next reply) ⊎ ((answer ≡ found) × (new ≡ mid))
+pub outcome_cases : (found : SiteAnswer) (mid : RunState) (answer : SiteAnswer) (new : RunState) (next : Reply → Type 0) → IsOutcomeAfter found mid answer new next → ((reply : Reply) × (found ≡ replied reply) × next reply) ⊎ ((answer ≡ found) × (new ≡ mid))
 outcome_cases (replied reply) mid answer new next is = inl (reply, refl, is)
 outcome_cases (refused refusal) mid answer new next is = inr is
 outcome_cases (created host) mid answer new next is = inr is

@@ -235,7 +235,7 @@ no_damage damages (first ∷ hosts) none host among = by (λ rest there. no_dama
     by later (Some damage) e rest which = absurd cc
 
 -- of a filtered list
-kept_in : (test : Host → Bool) (hosts : List Host) (host : Host) → Contains hosts host → test host ≡ true → Contains (filter test hosts) host
+pub kept_in : (test : Host → Bool) (hosts : List Host) (host : Host) → Contains hosts host → test host ≡ true → Contains (filter test hosts) host
 kept_in test [] host among passes = absurd (contains_none host among)
 kept_in test (first ∷ hosts) host among passes = by (λ there. kept_in test hosts host there passes) (test first) refl (contains_cases first hosts host among)
   where
@@ -253,7 +253,7 @@ seen_in sights (first ∷ hosts) host among = ⊎_elim
     seen : Host → Sighting
     seen h = record { host = h; shown = sight_of (sights h) }
 
-in_list : (hosts : List Host) (number : ℕ) (host : Host) → slice_get hosts number ≡ Some host → Contains hosts host
+pub in_list : (hosts : List Host) (number : ℕ) (host : Host) → slice_get hosts number ≡ Some host → Contains hosts host
 in_list [] number host here = absurd cc
 in_list (first ∷ hosts) zero host here = contains_same first hosts host (sym (some_is first host here))
 in_list (first ∷ hosts) (suc number) host here = contains_later first hosts host (in_list hosts number host here)

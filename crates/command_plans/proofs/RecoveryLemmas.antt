@@ -34,7 +34,7 @@ pub record IsSure (sights : Sights) (new : Roster) : Type 0 where
   pub may : MayShow sights host (Some new)
   pub only : (shown : Option Roster) → MayShow sights host shown → shown ≡ Some new
 
-contains_or_not : (hosts : List Host) (host : Host) → Contains hosts host ⊎ (Contains hosts host → ⊥)
+pub contains_or_not : (hosts : List Host) (host : Host) → Contains hosts host ⊎ (Contains hosts host → ⊥)
 contains_or_not hosts host = by (is_among hosts host) refl
   where
     by : (b : Bool) → is_among hosts host ≡ b → Contains hosts host ⊎ (Contains hosts host → ⊥)

@@ -7,4 +7,5 @@ pub mod PartPlans
 pub mod ChangePlans
 pub mod OpeningPlans
 pub mod Steps
+pub mod Kept
 pub mod OnDisks

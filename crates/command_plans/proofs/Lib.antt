@@ -34,3 +34,4 @@ pub mod FirstRestLemmas
 pub mod ChangeGoesLemmas
 pub mod RunLemmas
 pub mod CarriedPlanLemmas
+pub mod CarriedRecoveryLemmas

@@ -164,7 +164,7 @@ quiet_keeps shape durable passing number old next keeps moves = record {
 abbrev pub IsSiteKept : SiteShape → Durable → SiteImage → Type 0
 IsSiteKept shape durable image = (passing : List Roster) × KeepsSite shape durable passing image
 
-still_kept : (shape : SiteShape) (durable kept : Durable) (passing : List Roster) (old next : SiteImage) → KeepsSite shape durable passing old → kept ≡ durable → next ≡ old → IsSiteKept shape kept next
+pub still_kept : (shape : SiteShape) (durable kept : Durable) (passing : List Roster) (old next : SiteImage) → KeepsSite shape durable passing old → kept ≡ durable → next ≡ old → IsSiteKept shape kept next
 still_kept shape durable kept passing old next keeps is alike = (passing, subst (λ (d : Durable). KeepsSite shape d passing next) (sym is) (subst (λ (m : SiteImage). KeepsSite shape durable passing m) (sym alike) keeps))
 
 at_its_start : (acts : List Act) (durable : Durable) → KeepsRostersThroughout acts durable → KeepsRostersAt durable

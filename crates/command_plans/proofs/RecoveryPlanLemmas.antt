@@ -161,7 +161,7 @@ front_of [] roster e = absurd cc
 front_of (first ∷ older) roster e = (older, ap (λ (r : Roster). r ∷ older) (some_is first roster e))
 
 -- by the roster being written, or by the last finished one
-recovery_holds : (shape : SiteShape) (standings : List LaneStanding) (chosen : Roster) (durable : Durable) (writing : Option Roster) → durable.rosters.writing ≡ writing → counting_roster durable.rosters ≡ Some chosen → IsSteady shape standings durable
+pub recovery_holds : (shape : SiteShape) (standings : List LaneStanding) (chosen : Roster) (durable : Durable) (writing : Option Roster) → durable.rosters.writing ≡ writing → counting_roster durable.rosters ≡ Some chosen → IsSteady shape standings durable
     → All (IsHeldAt (numbers_of shape.hosts chosen.hosts)) standings
     → HoldsThroughout (IsSteady shape standings) (recovery_acts shape durable writing chosen) durable × IsReady shape standings (all_done (recovery_acts shape durable writing chosen) durable).rosters
 recovery_holds shape standings chosen durable None e counts is held =

@@ -3,12 +3,14 @@
 ghost use Rattle.std.specs.Prelude.{◌≡◌, ◌++◌, List, [], ◌∷◌, map, Some, true};
 ghost use Rattle.roster_form.specs.Membership.{Host};
 ghost use Rattle.roster_form.specs.declared.roster.Roster.{Roster};
-ghost use Rattle.cluster_model.specs.Agreement.{Durable, two_of, KeepsSite, IsSaved, SurvivesStops};
+ghost use Rattle.cluster_model.specs.Agreement.{Durable, some_of, two_of, KeepsSite, IsSaved, SurvivesStops};
 ghost use Rattle.cluster_model.specs.Acts.{SiteHost, Act, writes, finishes, KeepsRostersThroughout};
 ghost use Rattle.cluster_model.specs.Carried.{IsCarriedOver};
-ghost use Rattle.cluster_model.specs.Restart.{IsSeenOrNot, AreRestarted};
+ghost use Rattle.cluster_model.specs.Memory.{Setting};
+ghost use Rattle.cluster_model.specs.Restart.{counting_roster, IsSeenOrNot, AreRestarted};
 ghost use Rattle.cluster_model.specs.Site.{SiteShape, SiteImage, site_view};
-ghost use Rattle.command_plans.specs.OpeningPlans.{roster_reads};
+ghost use Rattle.command_plans.specs.OpeningPlans.{roster_reads, recover_plan};
+ghost use Rattle.command_plans.specs.Kept.{KeepsClosed};
 ghost use Rattle.command_plans.specs.OnDisks.{only_counted, IsStageOn};
 ghost use Rattle.command_plans.specs.Stage.{OpenSite, closed, opened, RunStage, IsRestartOf};
 
@@ -40,9 +42,12 @@ pub fn a_restart_leads_to_a_stage<D: Disk>(
         → (new : RunStage) × IsRestartOf shape (opened site) new × IsStageOn shape new (site_view D.view (map (λ disks. disks.items) lanes_after.now) services_after.now) }
 {}
 
-/// A recovery keeps the site, wherever it is cut short: also while the roster that was being written, and that some host shows alone, is
-/// written to the hosts that lack it, and no other roster may pass. Then other acts follow that keep the rosters. Does nothing.
+/// A recovery of what the disks keep keeps the site, wherever it is cut short: where it is refused; where the chosen roster is written to
+/// those that lack it; and where the partitions are loaded. So do other acts after rosters were read, also while the roster that
+/// was being written, and that some host shows alone, is written to the hosts that lack it, and no other may pass. Does nothing.
 pub fn a_recovery_keeps_the_site()
+    ensures recovery { (setting : Setting) (durable kept : Durable) (present : List Host) (old next : SiteImage) → KeepsClosed setting.shape durable → KeepsSite setting.shape durable (some_of (counting_roster durable.rosters)) old
+        → IsCarriedOver setting.shape (recover_plan setting durable present).acts durable kept old next → (passing : List Roster) × KeepsSite setting.shape kept passing next }
     ensures rest { (shape : SiteShape) (new : Roster) (present : List Host) (hosts : List SiteHost) (more : List Act) (durable kept : Durable) (old next : SiteImage) → durable.rosters.writing ≡ Some new
         → KeepsSite shape durable (new ∷ []) old → ((host : Host) × (durable.sights host ≡ Some new ∷ [])) → KeepsRostersThroughout (map writes hosts ++ finishes ∷ more) durable
         → IsCarriedOver shape (roster_reads shape present ++ (map writes hosts ++ finishes ∷ more)) durable kept old next → (passing : List Roster) × KeepsSite shape kept passing next }

@@ -2,3 +2,4 @@ pub mod ReadingLemmas
 pub mod RostersLemmas
 pub mod StandingLemmas
 pub mod WritingLemmas
+pub mod OverLemmas

@@ -23,6 +23,10 @@ abbrev pub IsNewestOf : Image → Option ℕ → Type 0
 IsNewestOf m None = (file : ℕ) → file ≤ 1 → IsUnsealed (m file)
 IsNewestOf m (Some file) = IsNewest m file
 
+-- file 0 or file 1 is sealed
+abbrev pub HasSealedRoster : Image → Type 0
+HasSealedRoster m = IsSealed (m 0) ⊎ IsSealed (m 1)
+
 -- a roster, if there is one, is of a site with so many partitions
 abbrev pub IsOfSite : ℕ → Option Roster → Type 0
 IsOfSite partitions None = ⊤

@@ -1,5 +1,5 @@
 -- What a service disk holds while a roster is written to it.
-use Rattle.std.specs.Prelude.{◌≡◌, ◌⊎◌, ℕ, ◌<◌, List, drop, Option, Some, None}
+use Rattle.std.specs.Prelude.{◌≡◌, ◌≢◌, ◌⊎◌, ℕ, ◌<◌, List, drop, Option, Some, None}
 use Rattle.disk_trait.specs.View.{Image, View}
 use Rattle.disk_trait.specs.Calls.{Rose}
 use Rattle.disk_trait.specs.Moments.{Now}
@@ -37,6 +37,10 @@ abbrev pub IsReadyToWrite : List ℕ → ℕ → ℕ → Option Doubt → View �
 IsReadyToWrite text file other None v = IsSettled v file × Now v (λ m. IsSealed (m file) → IsNewest m other)
 IsReadyToWrite text file other (Some FirstByte) v = Now v (HasFreeFirst text file other)
 IsReadyToWrite text file other (Some Rest) v = Each v file IsBlank
+
+-- no file but this one has changed, from the one image to the other
+abbrev pub OnlyIn : ℕ → Image → Image → Type 0
+OnlyIn file old new = (f : ℕ) → f ≢ file → new f ≡ old f
 
 -- why a disk refused: its count of faults has risen, or it is one that takes memory
 abbrev pub IsCaused : View → View → DiskRefusal → Type 0

@@ -104,7 +104,7 @@ fn whole_file<D: Disk>(alloc: Global, disk: &mut D, file: u8) -> Result<Vec<u8>,
 }
 
 /// The newest sealed file, if one is sealed.
-fn newest_file<D: Disk>(disk: &mut D) -> Result<Option<u8>, DiskRefusal>
+pub(crate) fn newest_file<D: Disk>(disk: &mut D) -> Result<Option<u8>, DiskRefusal>
     ensures newest { IfOk result (λ newest. Tells (D.view disk.old) → IsNewestOf (D.view disk.old).seen newest) }
     ensures one_of_two { IfOk result (λ newest. IsOneOfTwo newest) }
     ensures moments { Throughout (D.view disk.old) (D.view disk.new) (D.view disk.old).images }

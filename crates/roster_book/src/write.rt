@@ -3,12 +3,12 @@ ghost use Rattle.std.specs.Prelude.{◌≡◌, ◌≢◌, ◌↔◌, ℕ, ◌-�
 ghost use Rattle.disk_trait.specs.View.{Image, View, Tells};
 ghost use Rattle.disk_trait.specs.Calls.{Moved, Same, Cause};
 ghost use Rattle.disk_trait.specs.Moments.{Now, After, Throughout, Onward};
-ghost use Rattle.seal_gate.specs.Seal.{Each};
+ghost use Rattle.seal_gate.specs.Seal.{Each, IsSettled};
 ghost use Rattle.store_journal.specs.Created.{IsBlank};
 ghost use Rattle.roster_form.specs.RosterText.{IsRosterText};
 ghost use Rattle.roster_form.specs.Shown.{IsWritingOver, IsSeenAs};
 ghost use Rattle.roster_form.specs.declared.roster.Roster.{Roster};
-ghost use Rattle.roster_book.specs.Writing.{IsSomeRoster, HasFreeFirst, IsReadyToWrite, IsCaused};
+ghost use Rattle.roster_book.specs.Writing.{IsSomeRoster, HasFreeFirst, IsReadyToWrite, IsCaused, OnlyIn};
 
 use disk_trait::{Disk, DiskRefusal, write_synced};
 use seal_gate::{seal, settle};
@@ -64,6 +64,9 @@ pub fn write_roster<D: Disk>(
     ensures again { IfErr result (λ unwritten. IsReadyToWrite text.now file (1 - file) unwritten.doubt (D.view disk.new)) }
     ensures cause { IfErr result (λ unwritten. IsCaused (D.view disk.old) (D.view disk.new) unwritten.refusal) }
 
+    // No other file has changed, at any moment; after Ok nothing is pending in this one.
+    ensures beside { Throughout (D.view disk.old) (D.view disk.new) (After (D.view disk.old) (OnlyIn file)) }
+    ensures settled { OnOk result (IsSettled (D.view disk.new) file) }
     ensures others { (f : ℕ) → f ≢ file → (D.view disk.new).seen f ≡ (D.view disk.old).seen f }
     ensures onward { Onward (D.view disk.old) (D.view disk.new) }
 {
@@ -97,6 +100,7 @@ fn free_file<D: Disk>(
         → Now (D.view disk.old) (IsWritingOver roster file (1 - file) sights) → Throughout (D.view disk.old) (D.view disk.new) (IsWritingOver roster file (1 - file) sights) }
     ensures again { IfErr result (λ unwritten. IsReadyToWrite text.now file (1 - file) unwritten.doubt (D.view disk.new)) }
     ensures cause { IfErr result (λ unwritten. IsCaused (D.view disk.old) (D.view disk.new) unwritten.refusal) }
+    ensures beside { Throughout (D.view disk.old) (D.view disk.new) (After (D.view disk.old) (OnlyIn file)) }
     ensures others { (f : ℕ) → f ≢ file → (D.view disk.new).seen f ≡ (D.view disk.old).seen f }
     ensures onward { Onward (D.view disk.old) (D.view disk.new) }
 {
@@ -119,6 +123,7 @@ fn free_settled<D: Disk>(disk: &mut D, file: u8, text: &[u8]) -> Result<(), Unwr
         → Now (D.view disk.old) (IsWritingOver roster file (1 - file) sights) → Throughout (D.view disk.old) (D.view disk.new) (IsWritingOver roster file (1 - file) sights) }
     ensures again { IfErr result (λ unwritten. IsReadyToWrite text.now file (1 - file) unwritten.doubt (D.view disk.new)) }
     ensures cause { IfErr result (λ unwritten. IsCaused (D.view disk.old) (D.view disk.new) unwritten.refusal) }
+    ensures beside { Throughout (D.view disk.old) (D.view disk.new) (After (D.view disk.old) (OnlyIn file)) }
     ensures others { (f : ℕ) → f ≢ file → (D.view disk.new).seen f ≡ (D.view disk.old).seen f }
     ensures onward { Onward (D.view disk.old) (D.view disk.new) }
 {
@@ -141,6 +146,7 @@ fn zero_first<D: Disk>(disk: &mut D, file: u8, text: &[u8]) -> Result<(), Unwrit
         → Now (D.view disk.old) (IsWritingOver roster file (1 - file) sights) → Throughout (D.view disk.old) (D.view disk.new) (IsWritingOver roster file (1 - file) sights) }
     ensures again { IfErr result (λ unwritten. IsReadyToWrite text.now file (1 - file) unwritten.doubt (D.view disk.new)) }
     ensures cause { IfErr result (λ unwritten. IsCaused (D.view disk.old) (D.view disk.new) unwritten.refusal) }
+    ensures beside { Throughout (D.view disk.old) (D.view disk.new) (After (D.view disk.old) (OnlyIn file)) }
     ensures others { (f : ℕ) → f ≢ file → (D.view disk.new).seen f ≡ (D.view disk.old).seen f }
     ensures onward { Onward (D.view disk.old) (D.view disk.new) }
 {

@@ -1,6 +1,7 @@
 use Rattle.std.proofs.Common.{◌-◌}
 use Rattle.disk_trait.proofs.Runs.{holds_now, joined}
 use Rattle.roster_form.specs.Shown.{IsWritingOver}
+use Rattle.roster_book.proofs.OverLemmas.{only_moved, only_then}
 use Rattle.roster_book.proofs.WritingLemmas.{laid_over, sealing_over, sealing_free, laid_long, sealed_shows, other_apart, whole_rest}
 use Rattle.roster_book.proofs.write.write_roster.Goals as goal
 
@@ -57,3 +58,12 @@ returns-clause-moments g c = λ roster sights is over.
     let d = g.D.Disk.view c.seal.new.disk in
     let sealing = sealing_over n d roster c.args.text.now c.args.file (1 - c.args.file) sights is (other_apart c.args.file c.requires.file) (whole_rest n c.args.text.now c.args.file c.in_default.ensures.laid) c.seal.ensures.moments (holds_now b n w laid) in
     joined a b d w freed (joined b n d w laid sealing)
+
+pub returns-in-Err-clause-beside : goal.returns-in-Err-clause-beside
+returns-in-Err-clause-beside g c = only_then _ _ _ c.args.file c.free_file.ensures.beside (only_moved _ _ c.args.file _ c.lay_rest.ensures.moments)
+
+pub returns-in-Err-seal-clause-beside : goal.returns-in-Err-seal-clause-beside
+returns-in-Err-seal-clause-beside g c = only_then _ _ _ c.args.file (only_then _ _ _ c.args.file c.free_file.ensures.beside (only_moved _ _ c.args.file _ c.lay_rest.ensures.moments)) (only_moved _ _ c.args.file _ c.seal.ensures.moments)
+
+pub returns-clause-beside : goal.returns-clause-beside
+returns-clause-beside g c = only_then _ _ _ c.args.file (only_then _ _ _ c.args.file c.free_file.ensures.beside (only_moved _ _ c.args.file _ c.lay_rest.ensures.moments)) (only_moved _ _ c.args.file _ c.seal.ensures.moments)

@@ -46,6 +46,7 @@ impl<D: Disk> Cell<D> {
         requires settled { (h f : ℕ) (disk : D) → Contains hosts.now h → f ≤ 1 → slice_get disks.items h ≡ Some disk → IsSettled (D.view disk) f }
 
         // After Ok the cell has the newest store, whole, and no other is left.
+        ensures of_partition { IfOk result (λ cell. cell.store.id.partition ≡ partition) }
         ensures loaded { IfOk result (IsLoadedCell D.view hosts.now (record { partition = partition; partitions = partitions }) disks.items) }
 
         // After a refusal too the newest store is as it was, and so it is at every moment.

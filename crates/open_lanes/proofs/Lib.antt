@@ -1,0 +1,5 @@
+pub mod PlacesLemmas
+pub mod WayLemmas
+pub mod FirstLemmas
+pub mod LoadedLemmas
+pub mod MadeLemmas

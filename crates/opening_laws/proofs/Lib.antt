@@ -1,0 +1,3 @@
+mod LaneErasedLemmas
+mod LaneBeforeLemmas
+mod LoadActsLemmas

@@ -1,0 +1,2 @@
+pub mod StretchesLemmas
+pub mod FollowingLemmas

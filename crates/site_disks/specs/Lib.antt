@@ -1,0 +1,4 @@
+pub mod SiteDisks
+pub mod Told
+pub mod Stretches
+pub mod Following

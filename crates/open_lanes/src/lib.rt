@@ -2,8 +2,9 @@
 //!
 //! Seen as: a list of lanes, by partition from 0, from the disks before to those after (specs/Opened.antt).
 //! Keeps: after Ok each partition has its cell, which is the first one (`AreMade`) or has the newest store of its lane (`AreLoaded`), with a
-//! trail that begins. A refusal is that of the first partition that has one; it gives every lane back at its place, the newest store of
-//! each as it was (`KeepNewest`).
+//! trail that begins. Every lane is given back at its place, after a refusal too; of a load that is refused the newest store of each lane
+//! is as it was, at every moment (`KeepNewest`), and the partition is the first that wasn't loaded (`AreLoadedBefore`). Of a creation no
+//! clause says that it is the first.
 //! Hides: that a lane's disks are moved into its cell, and back.
 //! Not here: one partition's store (partition_cell), rosters, and what the disks of a whole cluster keep (cluster_model).
 #![tactic(auto)]
